@@ -1,0 +1,66 @@
+-- `section::Height::of_length` meets its contract. Assumes nothing.
+use mathlib.Core.Path.{sym, ap}
+use Rattle.section.proofs.Lengths.{no-length-of-match}
+use Rattle.section.specs.Heights.{heightOf}
+use Rattle.section.proofs.Height.of_length.Statement.{statement}
+use Rattle.section.proofs.Height.of_length.Tie as tie
+
+returns : tie.Need-returns
+unfolding heightOf
+returns c = sym (ap heightOf (c .match .keys1))
+
+returns-2 : tie.Need-returns-2
+unfolding heightOf
+returns-2 c = sym (ap heightOf (c .match .keys2))
+
+returns-3 : tie.Need-returns-3
+unfolding heightOf
+returns-3 c = sym (ap heightOf (c .match .keys3))
+
+returns-4 : tie.Need-returns-4
+unfolding heightOf
+returns-4 c = sym (ap heightOf (c .match .keys4))
+
+returns-5 : tie.Need-returns-5
+unfolding heightOf
+returns-5 c = sym (ap heightOf (c .match .keys5))
+
+returns-6 : tie.Need-returns-6
+unfolding heightOf
+returns-6 c = sym (ap heightOf (c .match .keys6))
+
+returns-7 : tie.Need-returns-7
+unfolding heightOf
+returns-7 c = sym (ap heightOf (c .match .keys7))
+
+returns-8 : tie.Need-returns-8
+unfolding heightOf
+returns-8 c = sym (ap heightOf (c .match .keys8))
+
+returns-9 : tie.Need-returns-9
+unfolding heightOf
+returns-9 c = sym (ap heightOf (c .match .keys9))
+
+returns-10 : tie.Need-returns-10
+unfolding heightOf
+returns-10 c = sym (ap heightOf (c .match .keys10))
+
+returns-11 : tie.Need-returns-11
+unfolding heightOf
+returns-11 c = sym (ap heightOf (c .match .keys11))
+
+returns-12 : tie.Need-returns-12
+unfolding heightOf
+returns-12 c = sym (ap heightOf (c .match .keys12))
+
+returns-13 : tie.Need-returns-13
+unfolding heightOf
+returns-13 c = sym (ap heightOf (c .match .keys13))
+
+returns-14 : tie.Need-returns-14
+returns-14 c = sym (no-length-of-match (c .before .args .n) (c .match .rest))
+
+pub of-length-spec : {M : Type 1} → statement M
+of-length-spec =
+    tie.close
+    (tie.spec returns returns-2 returns-3 returns-4 returns-5 returns-6 returns-7 returns-8 returns-9 returns-10 returns-11 returns-12 returns-13 returns-14)

@@ -1,0 +1,9 @@
+-- The laws of sections, by subject. What the functions need of bits stays in `Bits`, which no crate above sees.
+pub mod Booleans
+pub mod Multiples
+pub mod Nested
+pub mod Buddies
+pub mod Moves
+pub mod Lengths
+pub mod Answers
+mod Bits

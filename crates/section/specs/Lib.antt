@@ -1,0 +1,4 @@
+-- What the crate's contracts cite. Definitions only.
+pub mod Limits
+pub mod Heights
+pub mod Sections

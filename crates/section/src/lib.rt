@@ -1,0 +1,187 @@
+// Section arithmetic: heights and lengths, sections of a disk and their buddies. The only place with operations on bits.
+//
+// Which numbers are served. `Height::of_length` takes any number and refuses what is no length by its answer. `is_on_disk`
+// takes any first block and any number of blocks. Every other function asks for what a section of a disk gives: a height
+// up to the greatest, which `of_length` answers, and a first block below 2^31, which `is_on_disk` gives.
+ghost use mathlib.Core.Path.{_≡_};
+ghost use Prim.Native.Nat.{ℕ, _≤_};
+ghost use Rattle.section.specs.Limits.{blockSize, greatestDisk, catalogueSize, greatestHeight, mostFiles};
+ghost use Rattle.section.specs.Heights.{NoHigher, IsLength, heightOf};
+ghost use Rattle.section.specs.Sections.{Addressable, endOf, buddyOf, parentOf, isAligned, isOnDisk, hasBuddy, sharesBlock, isInside, movedInto};
+
+// The height of a section: its length is 2 to the height.
+pub struct Height {
+    pub value: u32,
+}
+
+// What a number of blocks is the length of.
+pub enum Measured {
+    Height(Height),
+    NoLength,
+}
+
+impl Height {
+    // The greatest height.
+    pub const GREATEST: u32 = 12;
+
+    // The number of blocks.
+    pub fn length(self) -> u32
+        requires { ⌜ NoHigher self ⌝ }
+        ensures { λ r. ⌜ IsLength self r ⌝ }
+    {
+        1 << self.value
+    }
+
+    // The height whose length is `n`.
+    pub fn of_length(n: u32) -> Measured
+        ensures { λ r. ⌜ r ≡ heightOf n ⌝ }
+    {
+        match n {
+            1 => Measured::Height(Height { value: 0 }),
+            2 => Measured::Height(Height { value: 1 }),
+            4 => Measured::Height(Height { value: 2 }),
+            8 => Measured::Height(Height { value: 3 }),
+            16 => Measured::Height(Height { value: 4 }),
+            32 => Measured::Height(Height { value: 5 }),
+            64 => Measured::Height(Height { value: 6 }),
+            128 => Measured::Height(Height { value: 7 }),
+            256 => Measured::Height(Height { value: 8 }),
+            512 => Measured::Height(Height { value: 9 }),
+            1024 => Measured::Height(Height { value: 10 }),
+            2048 => Measured::Height(Height { value: 11 }),
+            4096 => Measured::Height(Height { value: 12 }),
+            _ => Measured::NoLength,
+        }
+    }
+}
+
+// The blocks from `first` on, as many as the height's length.
+pub struct Section {
+    pub first: u32,
+    pub height: Height,
+}
+
+impl Section {
+    // The bytes of a block.
+    pub const BLOCK_SIZE: usize = 512;
+    // The greatest number of blocks of a disk, C.
+    pub const GREATEST_DISK: u32 = 4096;
+    // The bytes of a catalogue.
+    pub const CATALOGUE_SIZE: usize = 4096;
+    // The most files of a catalogue.
+    pub const MOST_FILES: usize = 64;
+
+    // Whether the first block is a multiple of the length.
+    pub fn is_aligned(self) -> bool
+        requires { ⌜ NoHigher (self .height) ⌝ }
+        ensures { λ r. ⌜ r ≡ isAligned self ⌝ }
+    {
+        let h = self.height;
+        let mask = h.length() - 1;
+        self.first & mask == 0
+    }
+
+    // The block after the last.
+    pub fn end(self) -> u32
+        requires { ⌜ Addressable self ⌝ }
+        ensures { λ r. ⌜ r ≡ endOf self ⌝ }
+    {
+        let h = self.height;
+        self.first + h.length()
+    }
+
+    // Whether the section is one of a disk of `blocks` blocks.
+    pub fn is_on_disk(self, blocks: u32) -> bool
+        requires { ⌜ NoHigher (self .height) ⌝ }
+        ensures { λ r. ⌜ r ≡ isOnDisk blocks self ⌝ }
+    {
+        let h = self.height;
+        let length = h.length();
+        if blocks < length {
+            return false;
+        }
+        if blocks - length < self.first {
+            return false;
+        }
+        self.is_aligned()
+    }
+
+    // The buddy: it starts at the first block with the bit of the length flipped.
+    pub fn buddy(self) -> Section
+        requires { ⌜ NoHigher (self .height) ⌝ }
+        ensures { λ r. ⌜ r ≡ buddyOf self ⌝ }
+    {
+        let h = self.height;
+        Section {
+            first: self.first ^ h.length(),
+            height: h,
+        }
+    }
+
+    // Whether the buddy is a section of a disk of `blocks` blocks.
+    pub fn has_buddy(self, blocks: u32) -> bool
+        requires { ⌜ NoHigher (self .height) ⌝ }
+        ensures { λ r. ⌜ r ≡ hasBuddy blocks self ⌝ }
+    {
+        let buddy = self.buddy();
+        buddy.is_on_disk(blocks)
+    }
+
+    // The section of which the section and its buddy are the halves.
+    pub fn parent(self) -> Section
+        requires { ⌜ NoHigher (self .height) ⌝ }
+        ensures { λ r. ⌜ r ≡ parentOf self ⌝ }
+    {
+        let h = self.height;
+        let length = 2 * h.length();
+        Section {
+            first: self.first / length * length,
+            height: Height { value: h.value + 1 },
+        }
+    }
+
+    // Whether the two have a block in common.
+    pub fn shares_block(self, other: Section) -> bool
+        requires { ⌜ Addressable self ⌝ }
+        requires { ⌜ Addressable other ⌝ }
+        ensures { λ r. ⌜ r ≡ sharesBlock self other ⌝ }
+    {
+        self.first < other.end() && other.first < self.end()
+    }
+
+    // Whether every block of the section is one of the other's.
+    pub fn is_inside(self, other: Section) -> bool
+        requires { ⌜ Addressable self ⌝ }
+        requires { ⌜ Addressable other ⌝ }
+        ensures { λ r. ⌜ r ≡ isInside self other ⌝ }
+    {
+        other.first <= self.first && self.end() <= other.end()
+    }
+
+    // Where the section is once all that lies inside `from` has moved to `to`: at the same distance, or where it was.
+    pub fn moved(self, from: Section, to: Section) -> Section
+        requires { ⌜ Addressable self ⌝ }
+        requires { ⌜ Addressable from ⌝ }
+        requires { ⌜ Addressable to ⌝ }
+        ensures { λ r. ⌜ r ≡ movedInto from to self ⌝ }
+    {
+        let h = self.height;
+        if self.is_inside(from) {
+            Section {
+                first: to.first + (self.first - from.first),
+                height: h,
+            }
+        } else {
+            self
+        }
+    }
+}
+
+// The constants are those of the definitions.
+pub fn limits_agree()
+    ensures block_size { λ _. do ⌜ (← ⟦Section::BLOCK_SIZE⟧ .entry) ≡ blockSize ⌝ }
+    ensures greatest_disk { λ _. do ⌜ (← ⟦Section::GREATEST_DISK⟧ .entry) ≡ greatestDisk ⌝ }
+    ensures catalogue_size { λ _. do ⌜ (← ⟦Section::CATALOGUE_SIZE⟧ .entry) ≡ catalogueSize ⌝ }
+    ensures most_files { λ _. do ⌜ (← ⟦Section::MOST_FILES⟧ .entry) ≡ mostFiles ⌝ }
+    ensures greatest_height { λ _. do ⌜ (← ⟦Height::GREATEST⟧ .entry) ≡ greatestHeight ⌝ }
+{}

@@ -17,7 +17,8 @@ xor-one-even q e =
 
 xor-one-odd : (q : ℕ) → q % 2 ≡ 1 → bitXor q 1 + 1 ≡ q
 xor-one-odd q e =
-    ap (λ (x : ℕ). x + 1) (xor-step q 1 ∙ ap₂ (λ (x y : ℕ). x * 2 + differ y 1) (xor-zero-r (q / 2)) e) ∙ omega arith
+    ap (λ (x : ℕ). x + 1) (xor-step q 1 ∙ ap₂ (λ (x y : ℕ). x * 2 + differ y 1) (xor-zero-r (q / 2)) e)
+    ∙ omega arith
 
 -- the bit of a length flipped: the bits below stay
 xor-length-parts : (h a : ℕ) → bitXor a (2 ^ h) ≡ bitXor (a / 2 ^ h) 1 * 2 ^ h + a % 2 ^ h

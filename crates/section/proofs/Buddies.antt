@@ -118,7 +118,8 @@ parent-blocks h a x ha =
     ]
 
 -- a section that meets the buddy and not the section lies inside the buddy
-pub buddy-inside : (h i a x : ℕ) → a % 2 ^ h ≡ 0 → x % 2 ^ i ≡ 0 → x < buddyFirst h a + 2 ^ h → buddyFirst h a < x + 2 ^ i
+pub buddy-inside : (h i a x : ℕ) → a % 2 ^ h ≡ 0 → x % 2 ^ i ≡ 0 → x < buddyFirst h a + 2 ^ h
+    → buddyFirst h a < x + 2 ^ i
     → Apart x (2 ^ i) a (2 ^ h) → Within x (2 ^ i) (buddyFirst h a) (2 ^ h)
 buddy-inside h i a x ha hx =
     meets-inside
@@ -139,7 +140,8 @@ buddy-inside h i a x ha hx =
     (parent-has-buddy h a ha)
 
 -- of two sections of one height on a disk of c blocks the lower has its buddy on the disk
-pub buddy-of-lower : (h a u c : ℕ) → a % 2 ^ h ≡ 0 → u % 2 ^ h ≡ 0 → a < u → u + 2 ^ h ≤ c → buddyFirst h a + 2 ^ h ≤ c
+pub buddy-of-lower : (h a u c : ℕ) → a % 2 ^ h ≡ 0 → u % 2 ^ h ≡ 0 → a < u → u + 2 ^ h ≤ c
+    → buddyFirst h a + 2 ^ h ≤ c
 buddy-of-lower h a u c ha hu l f =
     let g = multiple-gap (2 ^ h) a u ha hu l in
     elim (halves h a ha) [ lower s t ↦ omega arith | upper s t ↦ omega arith ]

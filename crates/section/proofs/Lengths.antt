@@ -25,7 +25,13 @@ length-unique h i e =
       | inr l ↦ elim (below-or-not i h) [ inl m ↦ absurd (omega (arith, pow-lt m)) | inr m ↦ omega arith ]
     ]
 
-height-up-to : (m h : ℕ) → h ≤ m → heightUpTo m (2 ^ h) ≡ Measured·.Height (record { value = h })
+-- the shorter one has the lower height
+pub pow-lt-inv : (h i : ℕ) → 2 ^ h < 2 ^ i → h < i
+pow-lt-inv h i p =
+    elim (below-or-not h i) [ inl l ↦ l | inr l ↦ absurd (omega (arith, pow-mono {i = i} {j = h} l)) ]
+
+-- each power up to 2 ^ m is found
+pub height-up-to : (m h : ℕ) → h ≤ m → heightUpTo m (2 ^ h) ≡ Measured·.Height (record { value = h })
 height-up-to zero h l =
     let e : h ≡ 0 = omega arith in
     rw e refl
@@ -42,7 +48,9 @@ pub height-of-length : (h : ℕ) → h ≤ greatestHeight → heightOf (2 ^ h) �
 unfolding heightOf
 height-of-length h l = height-up-to greatestHeight h l
 
-length-up-to : (m n : ℕ) (h : Height) → heightUpTo m n ≡ Measured·.Height h → (h .value ≤ m) × (n ≡ 2 ^ (h .value))
+-- and nothing else is
+pub length-up-to : (m n : ℕ) (h : Height) → heightUpTo m n ≡ Measured·.Height h
+    → (h .value ≤ m) × (n ≡ 2 ^ (h .value))
 length-up-to zero n h e =
     elim (ℕ-discrete n 1) [
       | yes p ↦ (let q : h ≡ record { value = 0 } = cc (simp (eq-eqb n 1 p) at e) in
@@ -90,7 +98,8 @@ no-power-none zero n p = (tt, p 0 (omega arith))
 no-power-none (suc m) n p = (no-power-none m n (λ h l. p h (omega arith)), p (suc m) (omega arith))
 
 -- and what is none of the powers is no length
-pub no-length-of-no-power : (n : ℕ) → ((h : ℕ) → h ≤ greatestHeight → n ≡ 2 ^ h → ⊥) → heightOf n ≡ Measured·.NoLength
+pub no-length-of-no-power : (n : ℕ) → ((h : ℕ) → h ≤ greatestHeight → n ≡ 2 ^ h → ⊥)
+    → heightOf n ≡ Measured·.NoLength
 no-length-of-no-power n p = no-length-of-match n (no-power-none greatestHeight n p)
 
 -- more than the greatest disk is no length

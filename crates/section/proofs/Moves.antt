@@ -5,11 +5,14 @@ use mathlib.Core.Bool.{Bool, true, false}
 use mathlib.Core.Logic.{inl, inr, ⊎-elim}
 use Prim.Native.Nat.{ℕ, _+_, _-_, _%_, _^_, _≤_}
 use native.Mathlib.Omega.{arith}
-use Rattle.section.specs.Sections.{Among, Apart, Within, section, isInside, movedInto}
+use lib.Pow.{pow-pos}
+use Rattle.section.specs.Sections.{Among, Apart, Within, section, lengthOf, isInside, movedInto}
+use Rattle.section.proofs.Answers.{inside-iff}
 use Rattle.section.proofs.Multiples.{multiple-sum, multiple-difference, aligned-lower}
 use Rattle.section.specs.declared.Section.{Section}
 
-pub moved-aligned : (h i a b u : ℕ) → h ≤ i → a % 2 ^ h ≡ 0 → b % 2 ^ i ≡ 0 → u % 2 ^ i ≡ 0 → (u + (a - b)) % 2 ^ h ≡ 0
+pub moved-aligned : (h i a b u : ℕ) → h ≤ i → a % 2 ^ h ≡ 0 → b % 2 ^ i ≡ 0 → u % 2 ^ i ≡ 0
+    → (u + (a - b)) % 2 ^ h ≡ 0
 moved-aligned h i a b u l ha hb hu =
     multiple-sum
     (2 ^ h)
@@ -42,6 +45,16 @@ moved-inside b u s e = simp e
 pub moved-outside : (b u s : Section) → isInside s b ≡ false → movedInto b u s ≡ s
 unfolding movedInto
 moved-outside b u s e = simp e
+
+-- what lies apart from b stays
+pub moved-apart-stays : (b u s : Section) → Apart (s .first) (lengthOf s) (b .first) (lengthOf b)
+    → movedInto b u s ≡ s
+moved-apart-stays b u s apart = go (isInside s b) refl apart
+  where
+    go : (t : Bool) → isInside s b ≡ t → Apart (s .first) (lengthOf s) (b .first) (lengthOf b) → movedInto b u s ≡ s
+    go true e (inl l) = absurd (omega (arith, inside-iff s b .0 e .0, pow-pos (s .height .value)))
+    go true e (inr l) = absurd (omega (arith, inside-iff s b .0 e .1, pow-pos (s .height .value)))
+    go false e w = moved-outside b u s e
 
 -- moving keeps the height
 pub moved-height : (b u s : Section) → movedInto b u s .height .value ≡ s .height .value

@@ -5,7 +5,8 @@ use Prim.Native.Nat.{ℕ, _+_, _%_, _^_, _<_, _≤_}
 use native.Mathlib.Omega.{arith}
 use lib.Pow.{pow-pos}
 use Rattle.section.specs.Sections.{Among, Apart, Within}
-use Rattle.section.proofs.Multiples.{below-or-not, multiple-gap, multiple-sum, length-multiple, aligned-lower}
+use Rattle.section.proofs.Multiples.{below-or-not, multiple-gap, multiple-sum, length-multiple}
+use Rattle.section.proofs.Multiples.{aligned-lower}
 
 -- where the n blocks from a on lie, against the m from b on
 pub data Placed (a n b m : ℕ) : Type 0 where
@@ -33,8 +34,8 @@ apart-sym a n b m = ⊎-elim inr inl
 pub within-apart : (a n b m e k : ℕ) → Within a n b m → Apart b m e k → Apart a n e k
 within-apart a n b m e k w = ⊎-elim (λ l. inl (omega arith)) (λ l. inr (omega arith))
 
--- a and b of height h are inside p of height j. A section x of height i that meets b and not a, and is no higher than b
--- or no lower than p, lies inside b. With j = h + 1 and b the buddy of a, every i is such a height.
+-- a and b of height h are inside p of height j. A section x of height i that meets b and not a, and is no higher
+-- than b or no lower than p, lies inside b. With j = h + 1 and b the buddy of a, every i is such a height.
 pub meets-inside : (h i j a b p x : ℕ) → h ≤ j → (i ≤ h) ⊎ (j ≤ i) → a % 2 ^ h ≡ 0 → b % 2 ^ h ≡ 0 → p % 2 ^ j ≡ 0
     → x % 2 ^ i ≡ 0 → Within a (2 ^ h) p (2 ^ j) → Within b (2 ^ h) p (2 ^ j)
     → x < b + 2 ^ h → b < x + 2 ^ i → Apart x (2 ^ i) a (2 ^ h) → Within x (2 ^ i) b (2 ^ h)

@@ -1,5 +1,6 @@
 -- Sections of a disk in plain arithmetic: document 01, "Disk, sections, pieces". Definitions only.
--- A section of height h is the 2 ^ h blocks from its first block on. Definitions ending in `First` are on block numbers.
+-- A section of height h is the 2 ^ h blocks from its first block on. Definitions ending in `First` are on block
+-- numbers.
 use mathlib.Core.Path.{_≡_}
 use mathlib.Core.Logic.{_⊎_}
 use mathlib.Core.Bool.{Bool, cond, _&&_}

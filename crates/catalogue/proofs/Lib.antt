@@ -1,0 +1,12 @@
+-- The laws of the catalogue, by subject.
+pub mod Tests
+pub mod Sorting
+pub mod Fields
+pub mod Grouping
+pub mod Roomy
+pub mod ReadBack
+pub mod ReadBackLayout
+pub mod Size
+pub mod ReadOnly
+pub mod ReadOnlyLayout
+pub mod Reading

@@ -1,0 +1,4 @@
+-- Definitions only: the bytes of a catalogue, over a version, and the layout that is read from them.
+pub mod Version
+pub mod Encoding
+pub mod Reading

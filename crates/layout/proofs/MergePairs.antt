@@ -1,0 +1,53 @@
+-- The two free sections that a merge takes. Assumes nothing.
+use mathlib.Core.Bool.{Bool}
+use mathlib.Core.List.{List}
+use mathlib.Core.Path.{_≡_}
+use Prim.Native.Nat.{_+_, _≤_, ℕ}
+use native.Mathlib.Omega.{arith}
+use Rattle.layout.proofs.Splitting.{count-none, countOf, ofHeight-same}
+use Rattle.layout.proofs.Taking.{Rising, Takes, TakesOf, nothing-height, takeFirst-is, takes-each}
+use Rattle.layout.proofs.Taking.{takes-height, takes-lowest, takes-sum}
+use Rattle.layout.specs.Adding.{Taken, nothing, takeFirst, taken}
+use Rattle.layout.specs.Layout.{OnDisk, hasHeight, ofHeight}
+use Rattle.layout.specs.Lists.{Each, sumOf}
+use Rattle.layout.specs.Removing.{MergePair, fewer, mergePair, pair, secondOf, withLower}
+use Rattle.section.specs.declared.Section.{Section}
+
+-- the two that a merge at h takes
+pub record Mergeable (h : ℕ) (free : List Section) (l u : Section) (r : List Section) : Type 0 where
+  pub low : l .height .value ≡ h
+  pub high : u .height .value ≡ h
+  pub order : l .first ≤ u .first
+  pub sum : (w : Section → ℕ) → sumOf w free ≡ w l + (w u + sumOf w r)
+  pub each : (c : ℕ) → Each (OnDisk c) free → OnDisk c l × OnDisk c u × Each (OnDisk c) r
+
+abbrev pub MergeableOf : ℕ → List Section → MergePair → Type 0
+MergeableOf h free (pair l u r) = Mergeable h free l u r
+MergeableOf h free fewer = countOf h free ≤ 1
+
+mergeable : (h : ℕ) (free r r′ : List Section) (l u : Section) → l .height .value ≡ h → u .height .value ≡ h
+    → l .first ≤ u .first
+    → {p q : Section → Bool} → Takes p free l r → Takes q r u r′ → Mergeable h free l u r′
+mergeable h free r r′ l u lh uh o p q = record {
+  low = lh;
+  high = uh;
+  order = o;
+  sum = λ w. omega (arith, takes-sum w p, takes-sum w q);
+  each = λ c e. let x = takes-each p e in let y = takes-each q (x .1) in (x .0, y .0, y .1);
+}
+
+pub mergePair-is : (h : ℕ) (free : List Section) → Rising free → MergeableOf h free (mergePair h free)
+unfolding mergePair
+mergePair-is h free rise = go (takeFirst (hasHeight h) free) (takeFirst-is (hasHeight h) free)
+  where
+    go2 : (l : Section) (r : List Section) → Takes (hasHeight h) free l r → (q : Taken) → TakesOf (hasHeight h) r q
+        → MergeableOf h free (withLower l q)
+    go2 l r p (taken u r′) q =
+        mergeable h free r r′ l u (takes-height p) (takes-height q)
+        (takes-each q (takes-lowest p rise) .0 (takes-height q)) p q
+    go2 l r p nothing q =
+        omega (arith, takes-sum (ofHeight h) p, ofHeight-same h l (takes-height p), count-none h (nothing-height q))
+
+    go : (p : Taken) → TakesOf (hasHeight h) free p → MergeableOf h free (secondOf h p)
+    go (taken l r) p = go2 l r p (takeFirst (hasHeight h) r) (takeFirst-is (hasHeight h) r)
+    go nothing p = omega (arith, count-none h (nothing-height p))

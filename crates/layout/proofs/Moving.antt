@@ -1,0 +1,83 @@
+-- What a move keeps, stated once: all that lies inside the section of height h at b goes to the same distance
+-- inside the one at v, which no piece meets. Independent of how the two were chosen. Assumes nothing.
+use mathlib.Core.List.{List, map}
+use mathlib.Core.Logic.{inl, inr}
+use mathlib.Core.Path.{_∙_, _≡_, ap, sym}
+use Prim.Native.Nat.{_+_, _<_, _^_, _≤_, ℕ}
+use native.Mathlib.Omega.{arith}
+use Rattle.layout.proofs.Lists.{each-imp, sum-cong, sum-map}
+use Rattle.layout.proofs.Ranges.{inRange-carried}
+use Rattle.layout.proofs.Swaps.{SameOrApart, left, right, same, swap, swap-disk, swap-first, swap-off}
+use Rattle.layout.proofs.Swaps.{swap-second, swap-swap}
+use Rattle.layout.specs.Layout.{holdsBlock, inRange}
+use Rattle.layout.specs.Lists.{Each, sumOf}
+use Rattle.section.proofs.Answers.{inside-iff}
+use Rattle.section.proofs.Moves.{moved-apart-stays, moved-height, moved-inside}
+use Rattle.section.proofs.Nested.{Placed, after, before, inside}
+use Rattle.section.specs.Sections.{Apart, lengthOf, movedInto, section}
+use Rattle.section.specs.declared.Section.{Section}
+
+module _ (h b v : ℕ) where
+  -- the move, on one section
+  abbrev pub moving : Section → Section
+  moving s = movedInto (section b h) (section v h) s
+
+  -- a piece is inside b or apart from it, and apart from v
+  abbrev pub Movable : Section → Type 0
+  Movable s = Placed (s .first) (lengthOf s) b (2 ^ h) × Apart (s .first) (lengthOf s) v (2 ^ h)
+
+  -- its blocks go where the swap takes them
+  abbrev pub Carried : Section → Type 0
+  Carried s = (i : ℕ) → i < lengthOf s → moving s .first + i ≡ swap b v (2 ^ h) (s .first + i)
+
+  pub carry : (s : Section) → Movable s → Carried s
+  carry s (c, o) i p = go c
+    where
+      off-one : (c d : ℕ) → Apart (s .first) (lengthOf s) c d → Apart (s .first + i) 1 c d
+      off-one c d (inl q) = inl (omega arith)
+      off-one c d (inr q) = inr (omega arith)
+
+      stay : Apart (s .first) (lengthOf s) b (2 ^ h) → moving s .first + i ≡ swap b v (2 ^ h) (s .first + i)
+      stay q =
+          ap (λ (t : Section). t .first + i) (moved-apart-stays (section b h) (section v h) s q)
+          ∙ sym (swap-off b v (2 ^ h) (s .first + i) (off-one b (2 ^ h) q) (off-one v (2 ^ h) o))
+
+      go : Placed (s .first) (lengthOf s) b (2 ^ h) → moving s .first + i ≡ swap b v (2 ^ h) (s .first + i)
+      go (inside q r) =
+          ap (λ (t : Section). t .first + i)
+          (moved-inside (section b h) (section v h) s (inside-iff s (section b h) .1 (q, r)))
+          ∙ omega (arith, swap-first b v (2 ^ h) (s .first + i) (omega arith) (omega arith))
+      go (before q) = stay (inl q)
+      go (after q) = stay (inr q)
+
+  module _ (c : ℕ) (sep : SameOrApart b v (2 ^ h)) (bc : b + 2 ^ h ≤ c) (vc : v + 2 ^ h ≤ c) {others : List Section}
+      (all : Each Movable others) where
+    -- a block is held after the move as the block that came there was before it
+    pub move-holds : (x : ℕ)
+        → sumOf (holdsBlock x) (map moving others) ≡ sumOf (holdsBlock (swap b v (2 ^ h) x)) others
+    move-holds x =
+        sum-map (holdsBlock x) moving others
+        ∙ sum-cong (λ s. holdsBlock x (moving s)) (λ s. holdsBlock (swap b v (2 ^ h) x) s)
+        (each-imp (λ s p. one s (carry s p)) all)
+      where
+        one : (s : Section) → Carried s → holdsBlock x (moving s) ≡ holdsBlock (swap b v (2 ^ h) x) s
+        one s k =
+            ap (λ n. inRange x (moving s .first) (2 ^ n)) (moved-height (section b h) (section v h) s)
+            ∙ inRange-carried (swap b v (2 ^ h)) (swap-swap b v (2 ^ h) sep) (s .first) (moving s .first)
+            (lengthOf s) k x
+
+    -- the blocks from v on were in no piece, and those from b on now are in none
+    pub move-covers : ((x : ℕ) → inRange x v (2 ^ h) + sumOf (holdsBlock x) others ≡ inRange x 0 c)
+        → (x : ℕ) → inRange x b (2 ^ h) + sumOf (holdsBlock x) (map moving others) ≡ inRange x 0 c
+    move-covers w x =
+        omega (arith, move-holds x, comes x, w (swap b v (2 ^ h) x), swap-disk b v (2 ^ h) c sep bc vc x)
+      where
+        comes : (x : ℕ) → inRange x b (2 ^ h) ≡ inRange (swap b v (2 ^ h) x) v (2 ^ h)
+        comes = inRange-carried (swap b v (2 ^ h)) (swap-swap b v (2 ^ h) sep) v b (2 ^ h) (λ i p. go i p sep)
+          where
+            go : (i : ℕ) → i < 2 ^ h → SameOrApart b v (2 ^ h) → b + i ≡ swap b v (2 ^ h) (v + i)
+            go i p (same e) = omega (arith, swap-first b v (2 ^ h) (v + i) (omega arith) (omega arith))
+            go i p (left e) =
+                omega (arith, swap-second b v (2 ^ h) (v + i) (inr (omega arith)) (omega arith) (omega arith))
+            go i p (right e) =
+                omega (arith, swap-second b v (2 ^ h) (v + i) (inl (omega arith)) (omega arith) (omega arith))

@@ -1,0 +1,86 @@
+-- Soundness by sums: the form that adding and removing keep. The free lengths are under a rule that is a parameter.
+-- Assumes nothing.
+use mathlib.Core.List.{List, [], _∷_, map}
+use mathlib.Core.Path.{_≡_, refl}
+use Prim.Native.Nat.{_+_, _-_, _<_, _^_, _≤_, ℕ}
+use native.Mathlib.Omega.{arith}
+use lib.ListN.{length}
+use Rattle.layout.proofs.Allocating.{Falling}
+use Rattle.layout.proofs.Cover.{Covers, covers-size}
+use Rattle.layout.proofs.FilesMoved.{Shape, shape}
+use Rattle.layout.proofs.Lists.{sum-append}
+use Rattle.layout.proofs.Splitting.{AtMostOne}
+use Rattle.layout.proofs.Taking.{Rising}
+use Rattle.layout.specs.Layout.{File, Layout, OnDisk, allPieces, fileBlocks, filePieces, freeBlocks}
+use Rattle.layout.specs.Lists.{Each, Pairwise, done, more, next, none, sumOf}
+use Rattle.layout.specs.Sound.{greatestId}
+use Rattle.section.specs.Limits.{mostFiles}
+use Rattle.section.specs.Sections.{lengthOf}
+use Rattle.section.specs.declared.Section.{Section}
+
+-- heights fall
+abbrev pub FallingN : List ℕ → Type 0
+FallingN l = Pairwise (λ (a b : ℕ). b < a) l
+
+pub record ShapeSound (s : Shape) : Type 0 where
+  pub low : 1 ≤ s .id
+  pub high : s .id ≤ greatestId
+  pub falling : FallingN (s .heights)
+  pub some : 1 ≤ length (s .heights)
+
+abbrev pub RisingIds : List Shape → Type 0
+RisingIds l = Pairwise (λ (a b : Shape). a .id < b .id) l
+
+-- T: what is asked of the free lengths
+pub record SumsOver (T : List Section → Type 0) (K : ℕ) (l : Layout) : Type 0 where
+  pub some : 1 ≤ l .blocks
+  pub top : l .blocks < 2 ^ K
+  pub cap : l .blocks ≤ 2 ^ (K - 1)
+  pub disk : Each (OnDisk (l .blocks)) (allPieces l)
+  pub covers : Covers (l .blocks) (allPieces l)
+  pub rising : Rising (l .free)
+  pub thin : T (l .free)
+  pub shapes : Each ShapeSound (map shape (l .files))
+  pub ids : RisingIds (map shape (l .files))
+  pub few : length (l .files) ≤ mostFiles
+
+-- sound: no free length repeats
+abbrev pub SoundSums : ℕ → Layout → Type 0
+SoundSums K l = SumsOver AtMostOne K l
+
+-- f is the sum of the free lengths
+pub pieces-size : (fs : List File) → sumOf lengthOf (filePieces fs) ≡ sumOf fileBlocks fs
+unfolding filePieces
+pieces-size [] = refl
+pieces-size (f ∷ fs) = omega (arith, sum-append lengthOf (f .pieces) (filePieces fs), pieces-size fs)
+
+pub free-size : {T : List Section → Type 0} (K : ℕ) (l : Layout) → SumsOver T K l
+    → (sumOf fileBlocks (l .files) + sumOf lengthOf (l .free) ≡ l .blocks)
+free-size K l g = omega (
+  arith,
+  covers-size (l .blocks) (g .disk) (g .covers),
+  sum-append lengthOf (filePieces (l .files)) (l .free),
+  pieces-size (l .files),
+)
+
+pub free-is : {T : List Section → Type 0} (K : ℕ) (l : Layout) → SumsOver T K l
+    → freeBlocks l ≡ sumOf lengthOf (l .free)
+free-is K l g = omega (arith, free-size K l g)
+
+pub falling-of : (l : List Section) → FallingN (map (λ (s : Section). s .height .value) l) → Falling l
+falling-of [] n = none
+falling-of (s ∷ l) (next e f) = next (below l e) (falling-of l f)
+  where
+    below : (l : List Section) → Each (λ b. b < s .height .value) (map (λ (s : Section). s .height .value) l)
+        → Each (λ (b : Section). b .height .value < s .height .value) l
+    below [] e = done
+    below (t ∷ l) (more p e) = more p (below l e)
+
+pub falling-heights : {l : List Section} → Falling l → FallingN (map (λ (s : Section). s .height .value) l)
+falling-heights none = none
+falling-heights (next {a = a} {l = l} e f) = next (go e) (falling-heights f)
+  where
+    go : {m : List Section} → Each (λ (b : Section). b .height .value < a .height .value) m
+        → Each (λ b. b < a .height .value) (map (λ (s : Section). s .height .value) m)
+    go done = done
+    go (more p e) = more p (go e)

@@ -1,0 +1,8 @@
+-- Definitions only: what lies where on a disk, and what adding and removing do to it. No bytes.
+pub mod Lists
+pub mod Layout
+pub mod Adding
+pub mod Removing
+pub mod Carries
+pub mod Sound
+pub mod Loop

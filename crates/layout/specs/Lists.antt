@@ -1,0 +1,33 @@
+-- Lists: sums over a list, insertion and sorting, properties of every element and of every two. Definitions only.
+use Prim.Native.Nat.{ℕ, _+_}
+use mathlib.Core.Bool.{Bool, true, false}
+use mathlib.Core.List.{List, [], _∷_}
+
+-- the sum of a measure over a list
+abbrev pub sumOf {ℓ} : {A : Type ℓ} → (A → ℕ) → List A → ℕ
+sumOf w [] = 0
+sumOf w (a ∷ l) = w a + sumOf w l
+
+-- 1 for a test that is passed, else 0: a sum of these counts
+abbrev pub indicator : Bool → ℕ
+indicator true = 1
+indicator false = 0
+
+-- a put before the first element that it is not above, in the order le
+unfoldable pub insertBy {ℓ} : {A : Type ℓ} → (A → A → Bool) → A → List A → List A
+insertBy {A} le a [] = a ∷ []
+insertBy {A} le a (b ∷ l) = elim (le a b) as (λ _. List A) [ true ↦ a ∷ b ∷ l | false ↦ b ∷ insertBy le a l ]
+
+unfoldable pub sortBy {ℓ} : {A : Type ℓ} → (A → A → Bool) → List A → List A
+sortBy le [] = []
+sortBy le (a ∷ l) = insertBy le a (sortBy le l)
+
+-- every element has P
+pub data Each {ℓ κ} {A : Type ℓ} (P : A → Type κ) : List A → Type (ℓ ⊔ κ) where
+  done : Each P []
+  more : {a : A} {l : List A} → P a → Each P l → Each P (a ∷ l)
+
+-- every element has R to each one after it
+pub data Pairwise {ℓ κ} {A : Type ℓ} (R : A → A → Type κ) : List A → Type (ℓ ⊔ κ) where
+  none : Pairwise R []
+  next : {a : A} {l : List A} → Each (R a) l → Pairwise R l → Pairwise R (a ∷ l)

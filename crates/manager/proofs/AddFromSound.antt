@@ -1,0 +1,138 @@
+-- What an add promises from any sound catalogue with a disk of the right length. Assumes nothing.
+use mathlib.Core.Bool.{false}
+use mathlib.Core.List.{List, [], map}
+use mathlib.Core.Path.{_∙_, _≡_, ap₂, refl, subst, sym}
+use Prim.Native.Nat.{_*_, _+_, _<_, _≤_, ℕ}
+use native.Mathlib.Omega.{arith}
+use lib.ListN.{length}
+use borrow.Author.Tests.{le-ltb, lt-leb, ne-eqb}
+use Rattle.catalogue.proofs.Roomy.{Roomy}
+use Rattle.catalogue.specs.Encoding.{encode}
+use Rattle.catalogue.specs.Version.{Version}
+use Rattle.layout.proofs.Added.{added-once, added-size, added-sound, allocate-fits}
+use Rattle.layout.proofs.Allocating.{Allocates}
+use Rattle.layout.proofs.Occurs.{blocks-within, length-blocks, occurs-blocks}
+use Rattle.layout.proofs.SoundSums.{SoundSums}
+use Rattle.layout.proofs.Soundness.{sound-sums, sums-sound}
+use Rattle.layout.specs.Adding.{allocate, allocated, withFile}
+use Rattle.layout.specs.Layout.{Layout, blocksOf, filePieces, freeBlocks, hasFile, holdsBlock}
+use Rattle.layout.specs.Lists.{Each, sumOf}
+use Rattle.layout.specs.Sound.{Sound, greatestId}
+use Rattle.manager.proofs.Contents.{content-pages, cut-paged, paged-length}
+use Rattle.manager.proofs.Lines.{write-line}
+use Rattle.manager.proofs.OnSound.{add-on-sound, addRest}
+use Rattle.manager.proofs.Writing.{Paged, lines-same, write-back, write-length, write-other}
+use Rattle.manager.specs.Book.{contentPages, writeLine}
+use Rattle.manager.specs.Conditions.{Outcome, allowed, answered, firstRefusal, unlessRefused, unpaged}
+use Rattle.manager.specs.Disk.{block, cutPages, pageCount, pagesOn, writePages}
+use Rattle.manager.specs.Outcomes.{addOutcome, addPieces}
+use Rattle.manager.specs.WholeList.{lineOn}
+use Rattle.section.specs.Limits.{blockSize, mostFiles}
+use Rattle.section.specs.Sections.{lengthOf}
+use Rattle.section.specs.declared.Section.{Section}
+
+-- all that an answered add of the content bs as id i does to the layout l and the disk d
+pub record Adds (v : Version) (l : Layout) (d : List ℕ) (i : ℕ) (bs : List ℕ) (o : Outcome) : Type 0 where
+  pub pieces : List Section
+  pub rest : List Section
+  -- one piece for each 1 of n, from the highest down
+  pub allocation : allocate 0 (v .heights) (pageCount bs) (l .free) ≡ allocated pieces rest
+  pub reply : o .reply ≡ answered (pageCount bs)
+  pub catalogue : o .catalogue ≡ encode v (withFile i pieces rest l)
+  pub sound-after : Sound (v .heights) (withFile i pieces rest l)
+  pub output : o .output ≡ []
+  pub disk-length : length (o .disk) ≡ blockSize * l .blocks
+  -- the new file's blocks hold the content's pages in page order
+  pub pages : pagesOn (o .disk) pieces ≡ cutPages (pageCount bs) bs
+  -- blocks that were not of a free piece that is now the file's keep their bytes
+  pub others : (x : ℕ) → sumOf (holdsBlock x) pieces ≡ 0 → block (o .disk) x ≡ block d x
+  -- and so the other files keep their pages
+  pub lines : map (lineOn (o .disk)) (withFile i pieces rest l .files)
+      ≡ writeLine (record { id = i; pages = contentPages bs }) (map (lineOn d) (l .files))
+
+-- an add succeeds if no condition applies: the id is new, the content paged, there is room for a file and for its
+-- blocks
+module _ (v : Version) (room : Roomy v) (l : Layout) (s : Sound (v .heights) l) (d : List ℕ)
+    (ld : length d ≡ blockSize * l .blocks)
+    (i : ℕ) (bs : List ℕ) (least : 1 ≤ i) (most : i ≤ greatestId) (fresh : hasFile i (l .files) ≡ false)
+    (paged : unpaged bs ≡ false)
+    (few : length (l .files) < mostFiles) (fits : pageCount bs ≤ freeBlocks l) where
+  sums : SoundSums (v .heights) l
+  sums = sound-sums (v .heights) l (omega (arith, room .some-heights)) s
+
+  size : (1 ≤ pageCount bs) × (blockSize * pageCount bs ≡ length bs)
+  size = paged-length bs paged
+
+  cut : Paged (cutPages (pageCount bs) bs) × (length (cutPages (pageCount bs) bs) ≡ pageCount bs)
+  cut = cut-paged (pageCount bs) bs (omega (arith, size .1))
+
+  adds-pieces : (q r : List Section) → allocate 0 (v .heights) (pageCount bs) (l .free) ≡ allocated q r
+      → Allocates (l .blocks) (v .heights) (pageCount bs) (l .free) q r
+      → Adds v l d i bs (addPieces v i bs (encode v l) d l (allocated q r))
+  unfolding pagesOn
+  adds-pieces q r e p = record {
+    pieces = q;
+    rest = r;
+    allocation = e;
+    reply = refl;
+    catalogue = refl;
+    output = refl;
+    sound-after =
+        sums-sound (v .heights) (withFile i q r l)
+        (added-sound (v .heights) i (pageCount bs) l sums q r p fresh least most (size .0) fits few);
+    disk-length = write-length (l .blocks) d ld on-disk (cut .0);
+    pages = back;
+    others = λ x z. write-other (l .blocks) d ld on-disk (cut .0) x (occurs-blocks x q ∙ z);
+    lines =
+        sym (
+        ap₂ writeLine (λ j. record { id = i; pages = (content-pages bs ∙ sym back) j }) (sym kept)
+        ∙ write-line d′ (record { id = i; pieces = q }) (l .files));
+  }
+    where
+      d′ : List ℕ
+      d′ = writePages d (blocksOf q) (cutPages (pageCount bs) bs)
+
+      on-disk : Each (λ b. b < l .blocks) (blocksOf q)
+      on-disk = blocks-within (l .blocks) (p .on)
+
+      once : (x : ℕ) → sumOf (holdsBlock x) q + sumOf (holdsBlock x) (filePieces (l .files)) ≤ 1
+      once = added-once (v .heights) i (pageCount bs) l sums q r p fresh least most (size .0) fits few
+
+      sized : sumOf lengthOf q ≡ pageCount bs
+      sized = added-size (v .heights) i (pageCount bs) l sums q r p fresh least most (size .0) fits few
+
+      back : map (block d′) (blocksOf q) ≡ cutPages (pageCount bs) bs
+      back =
+          write-back (l .blocks) d ld on-disk (cut .0) (length-blocks q ∙ (sized ∙ sym (cut .1)))
+          (λ x. omega (arith, occurs-blocks x q, once x))
+
+      kept : map (lineOn d′) (l .files) ≡ map (lineOn d) (l .files)
+      kept =
+          lines-same d d′ (l .files)
+          (λ x z. write-other (l .blocks) d ld on-disk (cut .0) x (omega (arith, occurs-blocks x q, once x)))
+
+  pub adds : Adds v l d i bs (addPieces v i bs (encode v l) d l (allocate 0 (v .heights) (pageCount bs) (l .free)))
+  adds =
+      let x = allocate-fits (v .heights) i (pageCount bs) l sums fits in
+      subst (λ t. Adds v l d i bs (addPieces v i bs (encode v l) d l t)) (sym (x .2))
+      (adds-pieces (x .0) (x .1) (x .2) (x .3))
+
+  no-condition : firstRefusal (addRest i bs l) ≡ allowed
+  unfolding firstRefusal
+  no-condition =
+      rw (
+        ne-eqb i 0 (λ z. omega arith),
+        fresh,
+        paged,
+        lt-leb mostFiles (length (l .files)) few,
+        le-ltb (freeBlocks l) (pageCount bs) fits,
+      )
+
+  -- from any sound catalogue
+  pub add-from-sound : Adds v l d i bs (addOutcome v i bs (encode v l) d)
+  add-from-sound =
+      subst (Adds v l d i bs) (sym (add-on-sound v room l s d ld i bs))
+      (subst (λ j. Adds v l d i bs
+      (unlessRefused j (encode v l) d []
+      (addPieces v i bs (encode v l) d l (allocate 0 (v .heights) (pageCount bs) (l .free)))))
+      (sym no-condition) adds)

@@ -1,0 +1,93 @@
+-- What a removal promises from any sound catalogue with a disk of the right length. Assumes nothing.
+use mathlib.Core.List.{List, [], map}
+use mathlib.Core.Path.{_∙_, _≡_, ap, refl, subst, sym}
+use Prim.Native.Nat.{_*_, _≤_, ℕ}
+use native.Mathlib.Omega.{arith}
+use lib.ListN.{length}
+use borrow.Author.Tests.{ne-eqb}
+use Rattle.catalogue.proofs.Roomy.{Roomy}
+use Rattle.catalogue.specs.Encoding.{encode}
+use Rattle.catalogue.specs.Version.{Version}
+use Rattle.layout.proofs.Finding.{Find, find-id, found-find}
+use Rattle.layout.proofs.MergeAll.{merged-reach}
+use Rattle.layout.proofs.Origins.{InDisk, origin-off}
+use Rattle.layout.proofs.Removed.{Removes, removal-keeps}
+use Rattle.layout.proofs.SoundSums.{SoundSums}
+use Rattle.layout.proofs.Soundness.{sound-sums, sums-sound}
+use Rattle.layout.specs.Carries.{carries}
+use Rattle.layout.specs.Layout.{File, Layout, fileBlocks, findFile, found, freeBlocks, isFound}
+use Rattle.layout.specs.Lists.{Each}
+use Rattle.layout.specs.Removing.{Copy, copiesOf, layoutAfter, release, removal}
+use Rattle.layout.specs.Sound.{Sound}
+use Rattle.manager.proofs.Blocks.{copies-block, copies-length}
+use Rattle.manager.proofs.Lines.{find-strike, moved-lines}
+use Rattle.manager.proofs.OnSound.{fileRest, remove-on-sound}
+use Rattle.manager.specs.Book.{strikeLine}
+use Rattle.manager.specs.Conditions.{Outcome, allowed, answered, firstRefusal, unlessRefused}
+use Rattle.manager.specs.Disk.{block, runCopies}
+use Rattle.manager.specs.Outcomes.{afterMerges, removeFound, removeOutcome}
+use Rattle.manager.specs.WholeList.{lineOn}
+use Rattle.section.specs.Limits.{blockSize}
+
+-- all that a removal of the file f from the layout l does, with its merges ms
+pub record RemovesFrom (v : Version) (l : Layout) (d : List ℕ) (f : File) (o : Outcome) : Type 0 where
+  pub reply : o .reply ≡ answered (length (copiesOf (removal (v .heights) f l)))
+  pub catalogue : o .catalogue ≡ encode v (layoutAfter (release f l) (removal (v .heights) f l))
+  pub sound-after : Sound (v .heights) (layoutAfter (release f l) (removal (v .heights) f l))
+  pub blocks : layoutAfter (release f l) (removal (v .heights) f l) .blocks ≡ l .blocks
+  pub disk : o .disk ≡ runCopies d (copiesOf (removal (v .heights) f l))
+  pub disk-length : length (o .disk) ≡ blockSize * l .blocks
+  pub output : o .output ≡ []
+  -- the other files keep their pages
+  pub lines : map (lineOn (o .disk)) (layoutAfter (release f l) (removal (v .heights) f l) .files)
+      ≡ strikeLine (f .id) (map (lineOn d) (l .files))
+  -- blocks that are not copied to keep their bytes
+  pub others : (x : ℕ) → Each (λ (c : Copy). x ≡ c .target → ⊥) (copiesOf (removal (v .heights) f l))
+      → block (o .disk) x ≡ block d x
+  -- copies stay within the carries of f + n
+  pub limit : length (copiesOf (removal (v .heights) f l)) ≤ carries (v .heights) (freeBlocks l) (fileBlocks f)
+
+module _ (v : Version) (room : Roomy v) (l : Layout) (s : Sound (v .heights) l) (d : List ℕ)
+    (ld : length d ≡ blockSize * l .blocks)
+    (i : ℕ) (f : File) (e : findFile i (l .files) ≡ found f) where
+  sums : SoundSums (v .heights) l
+  sums = sound-sums (v .heights) l (omega (arith, room .some-heights)) s
+
+  others-left : (r : List File) × Find i (l .files) f r
+  others-left = found-find i (l .files) f e
+
+  kept : Removes (v .heights) l f (others-left .0) (removal (v .heights) f l)
+  kept = removal-keeps (v .heights) i l f (others-left .0) sums (others-left .1)
+
+  reach : Each (InDisk (l .blocks)) (copiesOf (removal (v .heights) f l))
+  reach = merged-reach (kept .steps)
+
+  pub removes : RemovesFrom v l d f (afterMerges v (release f l) d (removal (v .heights) f l))
+  removes = record {
+    reply = refl;
+    catalogue = refl;
+    disk = refl;
+    output = refl;
+    sound-after = sums-sound (v .heights) (layoutAfter (release f l) (removal (v .heights) f l)) (kept .sound);
+    blocks = kept .blocks;
+    disk-length = copies-length (l .blocks) d ld reach ∙ ld;
+    lines =
+        moved-lines (l .blocks) d ld reach (kept .files)
+        ∙ (sym (find-strike d (others-left .1))
+        ∙ ap (λ z. strikeLine z (map (lineOn d) (l .files))) (sym (find-id (others-left .1))));
+    others = λ x off. copies-block (l .blocks) d ld reach x ∙ ap (block d) (origin-off x off);
+    limit = kept .limit;
+  }
+
+  no-condition : 1 ≤ i → firstRefusal (fileRest i l) ≡ allowed
+  unfolding firstRefusal
+  no-condition least = rw (ne-eqb i 0 (λ z. omega arith), ap isFound e)
+
+  -- from any sound catalogue
+  pub remove-from-sound : 1 ≤ i → RemovesFrom v l d f (removeOutcome v i (encode v l) d)
+  remove-from-sound least =
+      subst (RemovesFrom v l d f) (sym (remove-on-sound v room l s d ld i))
+      (subst (λ j. RemovesFrom v l d f
+      (unlessRefused j (encode v l) d [] (removeFound v (encode v l) d l (findFile i (l .files)))))
+      (sym (no-condition least))
+      (subst (λ x. RemovesFrom v l d f (removeFound v (encode v l) d l x)) (sym e) removes))

@@ -1,0 +1,72 @@
+-- What stands between two calls of a list: a sound catalogue, a disk of its length, and the book of its files'
+-- lines. Assumes nothing.
+use mathlib.Core.List.{List, map}
+use mathlib.Core.Path.{_∙_, _≡_, ap, refl, subst, sym}
+use Prim.Native.Nat.{_*_, _-_, _<_, ℕ}
+use native.Mathlib.Omega.{arith}
+use lib.ListN.{length}
+use Rattle.catalogue.proofs.Roomy.{Roomy}
+use Rattle.catalogue.proofs.Size.{encode-bytes, encode-length}
+use Rattle.catalogue.specs.Encoding.{encode}
+use Rattle.catalogue.specs.Version.{Version}
+use Rattle.layout.proofs.Lists.{each-imp, pairwise-imp}
+use Rattle.layout.proofs.Ones.{distinct-ones}
+use Rattle.layout.proofs.Ranges.{inRange-inside}
+use Rattle.layout.proofs.Soundness.{sound-sums}
+use Rattle.layout.specs.Layout.{File, Layout, OnePiecePerOne, fileBlocks, freeBlocks}
+use Rattle.layout.specs.Lists.{Each, Pairwise}
+use Rattle.layout.specs.Sound.{Sound}
+use Rattle.manager.proofs.Lines.{lines-blocks, pages-in-lines}
+use Rattle.manager.specs.Book.{Book, bookFree}
+use Rattle.manager.specs.WholeList.{Afterwards, lineOn}
+use Rattle.section.specs.Limits.{blockSize}
+use Rattle.section.specs.Sections.{lengthOf}
+use Rattle.section.specs.declared.Section.{Section}
+
+-- the book of a layout on a disk
+abbrev pub bookOn : List ℕ → Layout → Book
+bookOn d l = record { blocks = l .blocks; lines = map (lineOn d) (l .files) }
+
+pub record Standing (v : Version) (cat d : List ℕ) (b : Book) : Type 0 where
+  pub layout : Layout
+  pub encoded : cat ≡ encode v layout
+  pub rules : Sound (v .heights) layout
+  pub disk-length : length d ≡ blockSize * layout .blocks
+  pub book : b ≡ bookOn d layout
+
+-- the book's f is the catalogue's
+pub book-free : (d : List ℕ) (l : Layout) → bookFree (bookOn d l) ≡ freeBlocks l
+book-free d l = ap (λ z. l .blocks - z) (pages-in-lines d (l .files))
+
+files-ones : (fs : List File)
+    → Each (λ (f : File). Pairwise (λ (s t : Section). lengthOf t < lengthOf s) (f .pieces)) fs
+    → Each (λ (f : File). OnePiecePerOne (fileBlocks f) (f .pieces)) fs
+files-ones fs e =
+    each-imp (λ f p. distinct-ones (fileBlocks f) (f .pieces) (pairwise-imp (λ s t q z. omega (arith, q)) p) refl) e
+
+module _ (v : Version) (room : Roomy v) where
+  standing-on : (d : List ℕ) (l : Layout) → Sound (v .heights) l → length d ≡ blockSize * l .blocks
+      → Afterwards v (encode v l) d (bookOn d l)
+  standing-on d l s ld =
+      let sums = sound-sums (v .heights) l (omega (arith, room .some-heights)) s in
+      record {
+        layout = l;
+        catalogue-length = encode-length v room l s;
+        catalogue-bytes = encode-bytes v l;
+        catalogue = record { encoded = refl; rules = s };
+        blocks = refl;
+        disk-length = ld;
+        lines = refl;
+        file-blocks = lines-blocks d (l .files);
+        file-pieces = files-ones (l .files) (s .page-order);
+        free-pieces =
+            distinct-ones (bookFree (bookOn d l)) (l .free) (s .free-distinct) (s .free-sum ∙ sym (book-free d l));
+        cover = λ x p. sums .covers x ∙ inRange-inside x 0 (l .blocks) (omega arith) (omega arith);
+      }
+
+  -- all that is claimed afterwards
+  pub standing-afterwards : (cat d : List ℕ) (b : Book) → Standing v cat d b → Afterwards v cat d b
+  standing-afterwards cat d b t =
+      subst (Afterwards v cat d) (sym (t .book))
+      (subst (λ z. Afterwards v z d (bookOn d (t .layout))) (sym (t .encoded))
+      (standing-on d (t .layout) (t .rules) (t .disk-length)))

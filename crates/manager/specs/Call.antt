@@ -1,0 +1,39 @@
+-- The calls and their arguments, buffers as lists of bytes. Definitions only.
+use mathlib.Core.List.{List, []}
+use Prim.Native.Nat.{ℕ, _≤_}
+use Rattle.layout.specs.Sound.{greatestId}
+
+pub data Call : Type 0 where
+  -- id and content
+  add : ℕ → List ℕ → Call
+  -- id
+  remove : ℕ → Call
+  -- id, first page and output
+  read : ℕ → ℕ → List ℕ → Call
+  -- id
+  breaks : ℕ → Call
+  free : Call
+  check : Call
+
+-- the caller's output buffer
+abbrev pub outputOf : Call → List ℕ
+outputOf (add i bs) = []
+outputOf (remove i) = []
+outputOf (read i p o) = o
+outputOf (breaks i) = []
+outputOf free = []
+outputOf check = []
+
+-- in every call an id is a number of 2 bytes
+abbrev pub TwoByteId : Call → Type 0
+TwoByteId (add i bs) = i ≤ greatestId
+TwoByteId (remove i) = i ≤ greatestId
+TwoByteId (read i p o) = i ≤ greatestId
+TwoByteId (breaks i) = i ≤ greatestId
+TwoByteId free = Unit {0}
+TwoByteId check = Unit {0}
+
+-- a call as it stands in a list
+pub record ListedCall : Type 0 where
+  pub call : Call
+  pub two-bytes : TwoByteId call

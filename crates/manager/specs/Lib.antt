@@ -1,0 +1,9 @@
+-- Definitions only: the disk, the calls and their outcomes, the plain book, and the claim about every list of
+-- calls.
+pub mod Disk
+pub mod Call
+pub mod Conditions
+pub mod Outcomes
+pub mod Table
+pub mod Book
+pub mod WholeList

@@ -1,0 +1,113 @@
+-- The outcome of each call on bytes: document 01, "Calls", "Adding" and "Removing". Definitions only.
+-- A refusal at a place that the conditions never let a call reach is marked so.
+use mathlib.Core.List.{List, []}
+use Prim.Native.Nat.{ℕ}
+use lib.ListN.{drop, length, take}
+use Rattle.catalogue.specs.Encoding.{encode}
+use Rattle.catalogue.specs.Reading.{Reading, readCatalogue, sound, unsound}
+use Rattle.catalogue.specs.Version.{Version}
+use Rattle.layout.specs.Adding.{Allocated, allocate, allocated, tooFew, withFile}
+use Rattle.layout.specs.Layout.{Found, Layout, blocksOf, breaksOf, findFile, found, freeBlocks, freshLayout}
+use Rattle.layout.specs.Layout.{missing}
+use Rattle.layout.specs.Removing.{Merge, copiesOf, layoutAfter, release, removal}
+use Rattle.manager.specs.Call.{Call, add, breaks, check, free, read, remove}
+use Rattle.manager.specs.Conditions.{Outcome, Reply, addConditions, answered, breaksConditions}
+use Rattle.manager.specs.Conditions.{checkConditions, firstRefusal, formatConditions, freeConditions, outcome}
+use Rattle.manager.specs.Conditions.{readConditions, refused, removeConditions, replyUnless, unlessRefused}
+use Rattle.manager.specs.Disk.{cutPages, joinPages, pageCount, pagesOn, runCopies, writePages}
+
+-- ---- what is done
+
+-- the catalogue with the file's pieces, and each page written; never too few: condition 11
+abbrev pub addPieces : Version → ℕ → List ℕ → List ℕ → List ℕ → Layout → Allocated → Outcome
+addPieces v i bs cat d l (allocated s r) =
+    outcome
+    (answered (pageCount bs))
+    (encode v (withFile i s r l))
+    (writePages d (blocksOf s) (cutPages (pageCount bs) bs))
+    []
+addPieces v i bs cat d l tooFew = outcome (refused 11) cat d []
+
+-- never unsound: condition 3
+abbrev pub doAdd : Version → ℕ → List ℕ → List ℕ → List ℕ → Reading → Outcome
+doAdd v i bs cat d (sound l) = addPieces v i bs cat d l (allocate 0 (v .heights) (pageCount bs) (l .free))
+doAdd v i bs cat d unsound = outcome (refused 3) cat d []
+
+-- the merges' copies made on the disk, and counted
+abbrev pub afterMerges : Version → Layout → List ℕ → List Merge → Outcome
+afterMerges v l d ms =
+    outcome (answered (length (copiesOf ms))) (encode v (layoutAfter l ms)) (runCopies d (copiesOf ms)) []
+
+-- never missing: condition 6
+abbrev pub removeFound : Version → List ℕ → List ℕ → Layout → Found → Outcome
+removeFound v cat d l (found f) = afterMerges v (release f l) d (removal (v .heights) f l)
+removeFound v cat d l missing = outcome (refused 6) cat d []
+
+abbrev pub doRemove : Version → ℕ → List ℕ → List ℕ → Reading → Outcome
+doRemove v i cat d (sound l) = removeFound v cat d l (findFile i (l .files))
+doRemove v i cat d unsound = outcome (refused 3) cat d []
+
+-- the pages from p on, as many as the output has
+abbrev pub readFound : ℕ → List ℕ → List ℕ → List ℕ → Found → Outcome
+readFound p o cat d (found f) =
+    outcome (answered (pageCount o)) cat d (joinPages (take (pageCount o) (drop p (pagesOn d (f .pieces)))))
+readFound p o cat d missing = outcome (refused 6) cat d o
+
+abbrev pub doRead : ℕ → ℕ → List ℕ → List ℕ → List ℕ → Reading → Outcome
+doRead i p o cat d (sound l) = readFound p o cat d (findFile i (l .files))
+doRead i p o cat d unsound = outcome (refused 3) cat d o
+
+abbrev pub breaksFound : Found → Reply
+breaksFound (found f) = answered (breaksOf (f .pieces))
+breaksFound missing = refused 6
+
+abbrev pub doBreaks : ℕ → Reading → Reply
+doBreaks i (sound l) = breaksFound (findFile i (l .files))
+doBreaks i unsound = refused 3
+
+abbrev pub doFree : Reading → Reply
+doFree (sound l) = answered (freeBlocks l)
+doFree unsound = refused 3
+
+abbrev pub doCheck : Reading → Reply
+doCheck (sound l) = answered (l .blocks)
+doCheck unsound = refused 3
+
+-- ---- the calls
+
+-- no file, free pairs for the ones of C, and the disk untouched
+unfoldable pub formatOutcome : Version → List ℕ → List ℕ → Outcome
+formatOutcome v cat d =
+    unlessRefused (firstRefusal (formatConditions v cat d)) cat d []
+    (outcome (answered (pageCount d)) (encode v (freshLayout (v .heights) (pageCount d))) d [])
+
+unfoldable pub addOutcome : Version → ℕ → List ℕ → List ℕ → List ℕ → Outcome
+addOutcome v i bs cat d =
+    unlessRefused (firstRefusal (addConditions v i bs cat d)) cat d [] (doAdd v i bs cat d (readCatalogue v cat))
+
+unfoldable pub removeOutcome : Version → ℕ → List ℕ → List ℕ → Outcome
+removeOutcome v i cat d =
+    unlessRefused (firstRefusal (removeConditions v i cat d)) cat d [] (doRemove v i cat d (readCatalogue v cat))
+
+unfoldable pub readOutcome : Version → ℕ → ℕ → List ℕ → List ℕ → List ℕ → Outcome
+readOutcome v i p o cat d =
+    unlessRefused (firstRefusal (readConditions v i p o cat d)) cat d o (doRead i p o cat d (readCatalogue v cat))
+
+-- breaks and free see the catalogue alone
+unfoldable pub breaksReply : Version → ℕ → List ℕ → Reply
+breaksReply v i cat = replyUnless (firstRefusal (breaksConditions v i cat)) (doBreaks i (readCatalogue v cat))
+
+unfoldable pub freeReply : Version → List ℕ → Reply
+freeReply v cat = replyUnless (firstRefusal (freeConditions v cat)) (doFree (readCatalogue v cat))
+
+unfoldable pub checkReply : Version → List ℕ → List ℕ → Reply
+checkReply v cat d = replyUnless (firstRefusal (checkConditions v cat d)) (doCheck (readCatalogue v cat))
+
+-- a call of a list
+abbrev pub perform : Version → Call → List ℕ → List ℕ → Outcome
+perform v (add i bs) cat d = addOutcome v i bs cat d
+perform v (remove i) cat d = removeOutcome v i cat d
+perform v (read i p o) cat d = readOutcome v i p o cat d
+perform v (breaks i) cat d = outcome (breaksReply v i cat) cat d []
+perform v free cat d = outcome (freeReply v cat) cat d []
+perform v check cat d = outcome (checkReply v cat d) cat d []

@@ -1,0 +1,117 @@
+-- The table of refusals of document 01, written apart from the calls' own conditions: who gives a refusal, and if
+-- what.
+-- Definitions only.
+use mathlib.Core.Bool.{Bool, _||_, false, true}
+use mathlib.Core.List.{List, [], _∷_}
+use mathlib.Core.Logic.{_⊎_}
+use mathlib.Core.Path.{_≡_}
+use Prim.Native.Nat.{_%_, _*_, _+_, _<_, _≤_, ℕ}
+use lib.Dec.{eqb}
+use lib.ListN.{length}
+use Rattle.catalogue.specs.Encoding.{encode}
+use Rattle.catalogue.specs.Version.{Version}
+use Rattle.layout.specs.Layout.{File, Layout, fileBlocks, findFile, found, freeBlocks}
+use Rattle.layout.specs.Lists.{Each}
+use Rattle.layout.specs.Sound.{Sound}
+use Rattle.manager.specs.Call.{Call, add, breaks, check, free, read, remove}
+use Rattle.manager.specs.Disk.{pageCount}
+use Rattle.section.specs.Limits.{blockSize, mostFiles}
+
+pub data Refusal : Type 0 where
+  catalogueLength : Refusal
+  formatDisk : Refusal
+  notSound : Refusal
+  diskLength : Refusal
+  idZero : Refusal
+  idMissing : Refusal
+  idThere : Refusal
+  bufferLength : Refusal
+  pastEnd : Refusal
+  filesFull : Refusal
+  noSpace : Refusal
+
+-- the number that is returned
+abbrev pub numberOf : Refusal → ℕ
+numberOf catalogueLength = 1
+numberOf formatDisk = 2
+numberOf notSound = 3
+numberOf diskLength = 4
+numberOf idZero = 5
+numberOf idMissing = 6
+numberOf idThere = 7
+numberOf bufferLength = 8
+numberOf pastEnd = 9
+numberOf filesFull = 10
+numberOf noSpace = 11
+
+-- the column "By": the numbers that a call may give
+abbrev pub numbersOf : Call → List ℕ
+numbersOf (add i bs) = 1 ∷ 3 ∷ 4 ∷ 5 ∷ 7 ∷ 8 ∷ 10 ∷ 11 ∷ []
+numbersOf (remove i) = 1 ∷ 3 ∷ 4 ∷ 5 ∷ 6 ∷ []
+numbersOf (read i p o) = 1 ∷ 3 ∷ 4 ∷ 5 ∷ 6 ∷ 8 ∷ 9 ∷ []
+numbersOf (breaks i) = 1 ∷ 3 ∷ 5 ∷ 6 ∷ []
+numbersOf free = 1 ∷ 3 ∷ []
+numbersOf check = 1 ∷ 3 ∷ 4 ∷ []
+
+abbrev pub isListed : ℕ → List ℕ → Bool
+isListed n [] = false
+isListed n (m ∷ l) = eqb n m || isListed n l
+
+abbrev pub By : Refusal → Call → Type 0
+By r c = isListed (numberOf r) (numbersOf c) ≡ true
+
+-- the arguments that the conditions name
+abbrev pub idOf : Call → ℕ
+idOf (add i bs) = i
+idOf (remove i) = i
+idOf (read i p o) = i
+idOf (breaks i) = i
+idOf free = 0
+idOf check = 0
+
+abbrev pub bufferOf : Call → List ℕ
+bufferOf (add i bs) = bs
+bufferOf (remove i) = []
+bufferOf (read i p o) = o
+bufferOf (breaks i) = []
+bufferOf free = []
+bufferOf check = []
+
+abbrev pub firstPageOf : Call → ℕ
+firstPageOf (add i bs) = 0
+firstPageOf (remove i) = 0
+firstPageOf (read i p o) = p
+firstPageOf (breaks i) = 0
+firstPageOf free = 0
+firstPageOf check = 0
+
+-- the catalogue is the encoding of the sound layout l
+pub record CatalogueOf (v : Version) (cat : List ℕ) (l : Layout) : Type 0 where
+  pub encoded : cat ≡ encode v l
+  pub rules : Sound (v .heights) l
+
+-- no file has the id
+abbrev pub NoFile : ℕ → Layout → Type 0
+NoFile i l = Each (λ (f : File). f .id ≡ i → ⊥) (l .files)
+
+-- the column "Given if"
+abbrev pub GivenIf : Version → Refusal → Call → List ℕ → List ℕ → Type 0
+GivenIf v catalogueLength c cat d = length cat ≡ v .bytes → ⊥
+GivenIf v formatDisk c cat d = ⊥
+GivenIf v notSound c cat d = (l : Layout) → CatalogueOf v cat l → ⊥
+GivenIf v diskLength c cat d = (l : Layout) × CatalogueOf v cat l × (length d ≡ blockSize * l .blocks → ⊥)
+GivenIf v idZero c cat d = idOf c ≡ 0
+GivenIf v idMissing c cat d = (l : Layout) × CatalogueOf v cat l × NoFile (idOf c) l
+GivenIf v idThere c cat d = (l : Layout) × CatalogueOf v cat l × (NoFile (idOf c) l → ⊥)
+GivenIf v bufferLength c cat d = (length (bufferOf c) ≡ 0) ⊎ (length (bufferOf c) % blockSize ≡ 0 → ⊥)
+GivenIf v pastEnd c cat d =
+    (l : Layout) × CatalogueOf v cat l × (f : File) × (findFile (idOf c) (l .files) ≡ found f)
+    × (fileBlocks f < firstPageOf c + pageCount (bufferOf c))
+GivenIf v filesFull c cat d = (l : Layout) × CatalogueOf v cat l × (mostFiles ≤ length (l .files))
+GivenIf v noSpace c cat d = (l : Layout) × CatalogueOf v cat l × (freeBlocks l < pageCount (bufferOf c))
+
+-- r is the lowest refusal of the table that applies
+pub record Lowest (v : Version) (c : Call) (cat d : List ℕ) (r : Refusal) : Type 0 where
+  pub by : By r c
+  pub given : GivenIf v r c cat d
+  pub lowest : (q : Refusal) → numberOf q < numberOf r → By q c → GivenIf v q c cat d → ⊥

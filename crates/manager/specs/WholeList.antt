@@ -1,0 +1,118 @@
+-- The claim about the whole list of calls: document 01, "The plain book". Definitions only.
+-- `WholeList` is the one statement; `whole-list` of `proofs/WholeList.antt` proves it of version 1.
+use mathlib.Core.List.{List, [], _∷_, map}
+use mathlib.Core.Path.{_≡_}
+use Prim.Native.Nat.{_*_, _<_, _≤_, ℕ}
+use lib.ListN.{length}
+use Rattle.catalogue.specs.Encoding.{byteValues}
+use Rattle.catalogue.specs.Version.{Version, greatestBlocks}
+use Rattle.layout.specs.Carries.{carries}
+use Rattle.layout.specs.Layout.{File, Layout, OnePiecePerOne, allPieces, breaksOf, fileBlocks, findFile, found}
+use Rattle.layout.specs.Layout.{freeBlocks, holdsBlock}
+use Rattle.layout.specs.Lists.{Each, sumOf}
+use Rattle.layout.specs.Removing.{copiesOf, removal}
+use Rattle.manager.specs.Book.{Book, BookReply, Line, answers, anyNumber, bookFree, freshBook, inBook, line}
+use Rattle.manager.specs.Book.{lineWith, refuses}
+use Rattle.manager.specs.Call.{Call, ListedCall, add, breaks, check, free, read, remove}
+use Rattle.manager.specs.Conditions.{Reply, answered, refused}
+use Rattle.manager.specs.Disk.{pagesOn}
+use Rattle.manager.specs.Outcomes.{formatOutcome, perform, removeOutcome}
+use Rattle.manager.specs.Table.{CatalogueOf}
+use Rattle.section.specs.Limits.{blockSize}
+
+-- ---- at each call
+
+-- the manager refuses exactly when the book does, with the same number, and its answer is the book's where the book
+-- has one
+abbrev pub RepliesAgree : Reply → BookReply → Type 0
+RepliesAgree (refused n) (refuses m) = n ≡ m
+RepliesAgree (answered n) (answers m) = n ≡ m
+RepliesAgree (answered n) anyNumber = Unit {0}
+RepliesAgree (refused n) (answers m) = ⊥
+RepliesAgree (refused n) anyNumber = ⊥
+RepliesAgree (answered n) (refuses m) = ⊥
+
+abbrev pub Answered : Reply → Type 0
+Answered (answered n) = Unit {0}
+Answered (refused n) = ⊥
+
+-- only an add or a removal that is not refused alters anything
+abbrev pub Alters : Call → Reply → Type 0
+Alters (add i bs) r = Answered r
+Alters (remove i) r = Answered r
+Alters (read i p o) r = ⊥
+Alters (breaks i) r = ⊥
+Alters free r = ⊥
+Alters check r = ⊥
+
+-- what is claimed of one call on a catalogue and a disk, beside the book
+pub record CallAgrees (v : Version) (c : Call) (cat d : List ℕ) (b : Book) : Type 0 where
+  pub reply : RepliesAgree (perform v c cat d .reply) (inBook c b .reply)
+  -- the whole output of a read
+  pub output : perform v c cat d .output ≡ inBook c b .output
+  pub catalogue-kept : (Alters c (perform v c cat d .reply) → ⊥) → perform v c cat d .catalogue ≡ cat
+  pub disk-kept : (Alters c (perform v c cat d .reply) → ⊥) → perform v c cat d .disk ≡ d
+  pub book-kept : (Alters c (perform v c cat d .reply) → ⊥) → inBook c b .book ≡ b
+  -- a removal answers the number of block copies made at its steps, within the carries of f + n
+  pub copies : (i k : ℕ) (l : Layout) (f : File) → c ≡ remove i → perform v c cat d .reply ≡ answered k
+      → CatalogueOf v cat l
+      → findFile i (l .files) ≡ found f → k ≡ length (copiesOf (removal (v .heights) f l))
+  pub limit : (i k : ℕ) (x : Line) → c ≡ remove i → perform v c cat d .reply ≡ answered k
+      → lineWith i (b .lines) ≡ line x
+      → k ≤ carries (v .heights) (bookFree b) (length (x .pages))
+  -- breaks answers the breaks of the file's pieces in the catalogue
+  pub breaks-answer : (i k : ℕ) (l : Layout) (f : File) → c ≡ breaks i → perform v c cat d .reply ≡ answered k
+      → CatalogueOf v cat l
+      → findFile i (l .files) ≡ found f → k ≡ breaksOf (f .pieces)
+
+-- ---- after the list
+
+-- the line of a file: its id, and the contents of its pieces' blocks in page order
+abbrev pub lineOn : List ℕ → File → Line
+lineOn d f = record { id = f .id; pages = pagesOn d (f .pieces) }
+
+pub record Afterwards (v : Version) (cat d : List ℕ) (b : Book) : Type 0 where
+  pub layout : Layout
+  -- the catalogue is as many bytes as the version has, and sound
+  pub catalogue-length : length cat ≡ v .bytes
+  pub catalogue-bytes : Each (λ x. x < byteValues) cat
+  pub catalogue : CatalogueOf v cat layout
+  pub blocks : layout .blocks ≡ b .blocks
+  pub disk-length : length d ≡ blockSize * b .blocks
+  -- its ids are those of the lines, and the blocks of a file's pieces hold the line's pages in page order
+  pub lines : map (lineOn d) (layout .files) ≡ b .lines
+  -- each n is the count of the line's pages
+  pub file-blocks : map fileBlocks (layout .files) ≡ map (λ (x : Line). length (x .pages)) (b .lines)
+  -- the pieces of a file are the ones of n, those that are free the ones of f
+  pub file-pieces : Each (λ (f : File). OnePiecePerOne (fileBlocks f) (f .pieces)) (layout .files)
+  pub free-pieces : OnePiecePerOne (bookFree b) (layout .free)
+  -- every block of the disk is in exactly one piece
+  pub cover : (x : ℕ) → x < b .blocks → sumOf (holdsBlock x) (allPieces layout) ≡ 1
+
+-- every call of the list agrees, each on what the one before it left, and afterwards all is as claimed
+abbrev pub Follows : Version → List ListedCall → List ℕ → List ℕ → Book → Type 0
+Follows v [] cat d b = Afterwards v cat d b
+Follows v (c ∷ cs) cat d b =
+    CallAgrees v (c .call) cat d b
+    × Follows v cs (perform v (c .call) cat d .catalogue) (perform v (c .call) cat d .disk)
+    (inBook (c .call) b .book)
+
+-- ---- the claim
+
+pub record WholeList (v : Version) : Type 0 where
+  -- from buffers of the right lengths, whatever bytes they have, format answers C and leaves the disk
+  pub format-answers : (c : ℕ) (cat d : List ℕ) → 1 ≤ c → c ≤ greatestBlocks v → length cat ≡ v .bytes
+      → length d ≡ blockSize * c
+      → formatOutcome v cat d .reply ≡ answered c
+  pub format-disk : (c : ℕ) (cat d : List ℕ) → 1 ≤ c → c ≤ greatestBlocks v → length cat ≡ v .bytes
+      → length d ≡ blockSize * c
+      → formatOutcome v cat d .disk ≡ d
+  -- and every list of calls from there follows a fresh book
+  pub list : (c : ℕ) (cat d : List ℕ) → 1 ≤ c → c ≤ greatestBlocks v → length cat ≡ v .bytes
+      → length d ≡ blockSize * c
+      → (calls : List ListedCall)
+      → Follows v calls (formatOutcome v cat d .catalogue) (formatOutcome v cat d .disk) (freshBook c)
+  -- the limit on copies stands for a removal on every sound catalogue
+  pub limit : (cat d : List ℕ) (l : Layout) (i k : ℕ) (f : File) → CatalogueOf v cat l
+      → findFile i (l .files) ≡ found f
+      → removeOutcome v i cat d .reply ≡ answered k → k ≤ carries (v .heights) (freeBlocks l) (fileBlocks f)

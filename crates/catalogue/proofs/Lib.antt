@@ -10,3 +10,4 @@ pub mod Size
 pub mod ReadOnly
 pub mod ReadOnlyLayout
 pub mod Reading
+pub mod CaseSeven

@@ -32,3 +32,5 @@ pub mod CopiesRise
 pub mod MergeOrder
 pub mod LoopMerges
 pub mod LoopTurns
+pub mod PageOrder
+pub mod LayoutCases

@@ -1,6 +1,6 @@
 -- When a layout is sound, for heights below k: a field for each rule of document 01, "The catalogue".
--- Definitions only. That n and f are sums, that files and pairs are listed once and that the pairs are sorted by first
--- block in the bytes is in `Layout` and in the encoding, not here.
+-- Definitions only. That n and f are sums, that files and pairs are listed once and that the pairs are sorted by
+-- first block in the bytes is in `Layout` and in the encoding, not here.
 use mathlib.Core.Path.{_≡_}
 use Prim.Native.Nat.{ℕ, _-_, _^_, _<_, _≤_}
 use lib.Count.{ones}

@@ -20,10 +20,11 @@ use Rattle.layout.specs.Lists.{Each, sumOf}
 use Rattle.layout.specs.Sound.{Sound, greatestId}
 use Rattle.manager.proofs.Contents.{content-pages, cut-paged, paged-length}
 use Rattle.manager.proofs.Lines.{write-line}
-use Rattle.manager.proofs.OnSound.{add-on-sound, addRest}
+use Rattle.manager.proofs.OnSound.{add-on-sound}
 use Rattle.manager.proofs.Writing.{Paged, lines-same, write-back, write-length, write-other}
 use Rattle.manager.specs.Book.{contentPages, writeLine}
-use Rattle.manager.specs.Conditions.{Outcome, allowed, answered, firstRefusal, unlessRefused, unpaged}
+use Rattle.manager.specs.Conditions.{Outcome, addChecks, allowed, answered, firstRefusal, unlessRefused}
+use Rattle.manager.specs.Conditions.{unpaged}
 use Rattle.manager.specs.Disk.{block, cutPages, pageCount, pagesOn, writePages}
 use Rattle.manager.specs.Outcomes.{addOutcome, addPieces}
 use Rattle.manager.specs.WholeList.{lineOn}
@@ -117,7 +118,7 @@ module _ (v : Version) (room : Roomy v) (l : Layout) (s : Sound (v .heights) l) 
       subst (λ t. Adds v l d i bs (addPieces v i bs (encode v l) d l t)) (sym (x .2))
       (adds-pieces (x .0) (x .1) (x .2) (x .3))
 
-  no-condition : firstRefusal (addRest i bs l) ≡ allowed
+  no-condition : firstRefusal (addChecks i bs l) ≡ allowed
   unfolding firstRefusal
   no-condition =
       rw (

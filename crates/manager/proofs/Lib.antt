@@ -10,4 +10,10 @@ pub mod Standing
 pub mod Steps
 pub mod Agreement
 pub mod ReadBack
+pub mod Refusals
+pub mod Deciding
+pub mod ConditionLists
+pub mod TableRows
+pub mod LowestRefusal
+pub mod FormatRefusals
 pub mod WholeList

@@ -3,7 +3,6 @@ use mathlib.Core.Bool.{false, not}
 use mathlib.Core.List.{List, [], _∷_}
 use mathlib.Core.Path.{_∙_, _≡_, ap, ap₂}
 use Prim.Native.Nat.{_*_, ℕ}
-use lib.Dec.{eqb, leb, ltb}
 use lib.ListN.{length}
 use borrow.Author.Tests.{eq-eqb}
 use Rattle.catalogue.proofs.ReadBackLayout.{catalogue-back}
@@ -13,29 +12,16 @@ use Rattle.catalogue.specs.Encoding.{encode}
 use Rattle.catalogue.specs.Reading.{readCatalogue, sound}
 use Rattle.catalogue.specs.Version.{Version}
 use Rattle.layout.specs.Adding.{allocate}
-use Rattle.layout.specs.Layout.{Layout, findFile, freeBlocks, hasFile}
+use Rattle.layout.specs.Layout.{Layout, findFile, freeBlocks}
 use Rattle.layout.specs.Sound.{Sound}
-use Rattle.manager.specs.Conditions.{Condition, answered, beyond, condition, firstRefusal, onLayout}
-use Rattle.manager.specs.Conditions.{replyUnless, unlessRefused, unpaged, wrongCatalogue, wrongDisk}
+use Rattle.manager.specs.Conditions.{Condition, addChecks, answered, condition, fileChecks, firstRefusal}
+use Rattle.manager.specs.Conditions.{onLayout, readChecks, replyUnless, unlessRefused, wrongCatalogue}
+use Rattle.manager.specs.Conditions.{wrongDisk}
 use Rattle.manager.specs.Disk.{pageCount}
 use Rattle.manager.specs.Outcomes.{addOutcome, addPieces, breaksFound, breaksReply, checkReply, doAdd}
 use Rattle.manager.specs.Outcomes.{doBreaks, doCheck, doFree, doRead, doRemove, freeReply, readFound}
 use Rattle.manager.specs.Outcomes.{readOutcome, removeFound, removeOutcome}
-use Rattle.section.specs.Limits.{blockSize, mostFiles}
-
-abbrev pub addRest : ℕ → List ℕ → Layout → List Condition
-addRest i bs l =
-    condition 5 (eqb i 0) ∷ condition 7 (hasFile i (l .files)) ∷ condition 8 (unpaged bs)
-    ∷ condition 10 (leb mostFiles (length (l .files)))
-    ∷ condition 11 (ltb (freeBlocks l) (pageCount bs)) ∷ []
-
-abbrev pub fileRest : ℕ → Layout → List Condition
-fileRest i l = condition 5 (eqb i 0) ∷ condition 6 (not (hasFile i (l .files))) ∷ []
-
-abbrev pub readRest : ℕ → ℕ → List ℕ → Layout → List Condition
-readRest i p o l =
-    condition 5 (eqb i 0) ∷ condition 6 (not (hasFile i (l .files))) ∷ condition 8 (unpaged o)
-    ∷ condition 9 (beyond (findFile i (l .files)) p (pageCount o)) ∷ []
+use Rattle.section.specs.Limits.{blockSize}
 
 module _ (v : Version) (room : Roomy v) (l : Layout) (s : Sound (v .heights) l) where
   read-back : readCatalogue v (encode v l) ≡ sound l
@@ -53,9 +39,9 @@ module _ (v : Version) (room : Roomy v) (l : Layout) (s : Sound (v .heights) l) 
 
   pub breaks-on-sound : (i : ℕ)
       → breaksReply v i (encode v l)
-      ≡ replyUnless (firstRefusal (fileRest i l)) (breaksFound (findFile i (l .files)))
+      ≡ replyUnless (firstRefusal (fileChecks i l)) (breaksFound (findFile i (l .files)))
   unfolding breaksReply
-  breaks-on-sound i = ap₂ (λ j x. replyUnless j (doBreaks i x)) (past-catalogue (fileRest i)) read-back
+  breaks-on-sound i = ap₂ (λ j x. replyUnless j (doBreaks i x)) (past-catalogue (fileChecks i)) read-back
 
   pub free-on-sound : freeReply v (encode v l) ≡ answered (freeBlocks l)
   unfolding freeReply firstRefusal
@@ -64,12 +50,12 @@ module _ (v : Version) (room : Roomy v) (l : Layout) (s : Sound (v .heights) l) 
   -- a removal, whatever the disk
   pub remove-on-catalogue : (i : ℕ) (d : List ℕ)
       → removeOutcome v i (encode v l) d
-      ≡ unlessRefused (firstRefusal (condition 4 (wrongDisk l d) ∷ fileRest i l)) (encode v l) d []
+      ≡ unlessRefused (firstRefusal (condition 4 (wrongDisk l d) ∷ fileChecks i l)) (encode v l) d []
       (removeFound v (encode v l) d l (findFile i (l .files)))
   unfolding removeOutcome
   remove-on-catalogue i d =
       ap₂ (λ j x. unlessRefused j (encode v l) d [] (doRemove v i (encode v l) d x))
-      (past-catalogue (λ m. condition 4 (wrongDisk m d) ∷ fileRest i m)) read-back
+      (past-catalogue (λ m. condition 4 (wrongDisk m d) ∷ fileChecks i m)) read-back
 
   module _ (d : List ℕ) (ld : length d ≡ blockSize * l .blocks) where
     right-disk : wrongDisk l d ≡ false
@@ -85,30 +71,30 @@ module _ (v : Version) (room : Roomy v) (l : Layout) (s : Sound (v .heights) l) 
 
     pub add-on-sound : (i : ℕ) (bs : List ℕ)
         → addOutcome v i bs (encode v l) d
-        ≡ unlessRefused (firstRefusal (addRest i bs l)) (encode v l) d []
+        ≡ unlessRefused (firstRefusal (addChecks i bs l)) (encode v l) d []
         (addPieces v i bs (encode v l) d l (allocate 0 (v .heights) (pageCount bs) (l .free)))
     unfolding addOutcome
     add-on-sound i bs =
         ap₂ (λ j x. unlessRefused j (encode v l) d [] (doAdd v i bs (encode v l) d x))
-        (past-buffers (addRest i bs)) read-back
+        (past-buffers (addChecks i bs)) read-back
 
     pub remove-on-sound : (i : ℕ)
         → removeOutcome v i (encode v l) d
-        ≡ unlessRefused (firstRefusal (fileRest i l)) (encode v l) d []
+        ≡ unlessRefused (firstRefusal (fileChecks i l)) (encode v l) d []
         (removeFound v (encode v l) d l (findFile i (l .files)))
     unfolding removeOutcome
     remove-on-sound i =
         ap₂ (λ j x. unlessRefused j (encode v l) d [] (doRemove v i (encode v l) d x))
-        (past-buffers (fileRest i)) read-back
+        (past-buffers (fileChecks i)) read-back
 
     pub read-on-sound : (i p : ℕ) (o : List ℕ)
         → readOutcome v i p o (encode v l) d
-        ≡ unlessRefused (firstRefusal (readRest i p o l)) (encode v l) d o
+        ≡ unlessRefused (firstRefusal (readChecks i p o l)) (encode v l) d o
         (readFound p o (encode v l) d (findFile i (l .files)))
     unfolding readOutcome
     read-on-sound i p o =
         ap₂ (λ j x. unlessRefused j (encode v l) d o (doRead i p o (encode v l) d x))
-        (past-buffers (readRest i p o)) read-back
+        (past-buffers (readChecks i p o)) read-back
 
     pub check-on-sound : checkReply v (encode v l) d ≡ answered (l .blocks)
     unfolding checkReply firstRefusal

@@ -22,10 +22,10 @@ use Rattle.manager.proofs.AddFromSound.{add-from-sound}
 use Rattle.manager.proofs.Blocks.{block-length}
 use Rattle.manager.proofs.Contents.{cut-paged, join-length, paged-length, pages-joined}
 use Rattle.manager.proofs.Lines.{pages-length}
-use Rattle.manager.proofs.OnSound.{read-on-sound, readRest}
+use Rattle.manager.proofs.OnSound.{read-on-sound}
 use Rattle.manager.proofs.Writing.{Paged}
-use Rattle.manager.specs.Conditions.{Outcome, allowed, answered, firstRefusal, outcome, unlessRefused}
-use Rattle.manager.specs.Conditions.{unpaged}
+use Rattle.manager.specs.Conditions.{Outcome, allowed, answered, firstRefusal, outcome, readChecks}
+use Rattle.manager.specs.Conditions.{unlessRefused, unpaged}
 use Rattle.manager.specs.Disk.{block, cutPages, joinPages, pageCount, pagesOn}
 use Rattle.manager.specs.Outcomes.{addOutcome, readFound, readOutcome}
 use Rattle.section.specs.Limits.{blockSize, mostFiles}
@@ -54,7 +54,7 @@ module _ (v : Version) (room : Roomy v) (l : Layout) (s : Sound (v .heights) l) 
   -- no condition of a read applies
   read-allowed : (i p : ℕ) (o : List ℕ) (f : File) → 1 ≤ i → findFile i (l .files) ≡ found f → unpaged o ≡ false
       → p + pageCount o ≤ fileBlocks f
-      → firstRefusal (readRest i p o l) ≡ allowed
+      → firstRefusal (readChecks i p o l) ≡ allowed
   unfolding firstRefusal
   read-allowed i p o f least e paged fits =
       rw (ne-eqb i 0 (λ z. omega arith), e, paged, le-ltb (fileBlocks f) (p + pageCount o) fits)

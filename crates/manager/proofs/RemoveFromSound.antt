@@ -21,9 +21,9 @@ use Rattle.layout.specs.Removing.{Copy, copiesOf, layoutAfter, release, removal
 use Rattle.layout.specs.Sound.{Sound}
 use Rattle.manager.proofs.Blocks.{copies-block, copies-length}
 use Rattle.manager.proofs.Lines.{find-strike, moved-lines}
-use Rattle.manager.proofs.OnSound.{fileRest, remove-on-sound}
+use Rattle.manager.proofs.OnSound.{remove-on-sound}
 use Rattle.manager.specs.Book.{strikeLine}
-use Rattle.manager.specs.Conditions.{Outcome, allowed, answered, firstRefusal, unlessRefused}
+use Rattle.manager.specs.Conditions.{Outcome, allowed, answered, fileChecks, firstRefusal, unlessRefused}
 use Rattle.manager.specs.Disk.{block, runCopies}
 use Rattle.manager.specs.Outcomes.{afterMerges, removeFound, removeOutcome}
 use Rattle.manager.specs.WholeList.{lineOn}
@@ -79,7 +79,7 @@ module _ (v : Version) (room : Roomy v) (l : Layout) (s : Sound (v .heights) l) 
     limit = kept .limit;
   }
 
-  no-condition : 1 ≤ i → firstRefusal (fileRest i l) ≡ allowed
+  no-condition : 1 ≤ i → firstRefusal (fileChecks i l) ≡ allowed
   unfolding firstRefusal
   no-condition least = rw (ne-eqb i 0 (λ z. omega arith), ap isFound e)
 

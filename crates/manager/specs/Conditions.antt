@@ -79,36 +79,49 @@ abbrev pub onLayout : Reading → (Layout → List Condition) → List Condition
 onLayout unsound k = condition 3 true ∷ []
 onLayout (sound l) k = condition 3 false ∷ k l
 
-abbrev pub addConditions : Version → ℕ → List ℕ → List ℕ → List ℕ → List Condition
-addConditions v i bs cat d =
-    condition 1 (wrongCatalogue v cat) ∷ onLayout (readCatalogue v cat) λ l.
-    condition 4 (wrongDisk l d)
-    ∷ condition 5 (eqb i 0)
+-- ---- past the buffers
+
+-- on the id alone
+abbrev pub fileChecks : ℕ → Layout → List Condition
+fileChecks i l = condition 5 (eqb i 0) ∷ condition 6 (not (hasFile i (l .files))) ∷ []
+
+abbrev pub addChecks : ℕ → List ℕ → Layout → List Condition
+addChecks i bs l =
+    condition 5 (eqb i 0)
     ∷ condition 7 (hasFile i (l .files))
     ∷ condition 8 (unpaged bs)
     ∷ condition 10 (leb mostFiles (length (l .files)))
     ∷ condition 11 (ltb (freeBlocks l) (pageCount bs))
     ∷ []
 
-abbrev pub removeConditions : Version → ℕ → List ℕ → List ℕ → List Condition
-removeConditions v i cat d =
-    condition 1 (wrongCatalogue v cat) ∷ onLayout (readCatalogue v cat) λ l.
-    condition 4 (wrongDisk l d) ∷ condition 5 (eqb i 0) ∷ condition 6 (not (hasFile i (l .files))) ∷ []
-
-abbrev pub readConditions : Version → ℕ → ℕ → List ℕ → List ℕ → List ℕ → List Condition
-readConditions v i p o cat d =
-    condition 1 (wrongCatalogue v cat) ∷ onLayout (readCatalogue v cat) λ l.
-    condition 4 (wrongDisk l d)
-    ∷ condition 5 (eqb i 0)
+abbrev pub readChecks : ℕ → ℕ → List ℕ → Layout → List Condition
+readChecks i p o l =
+    condition 5 (eqb i 0)
     ∷ condition 6 (not (hasFile i (l .files)))
     ∷ condition 8 (unpaged o)
     ∷ condition 9 (beyond (findFile i (l .files)) p (pageCount o))
     ∷ []
 
+-- ---- the whole list of each call
+
+abbrev pub addConditions : Version → ℕ → List ℕ → List ℕ → List ℕ → List Condition
+addConditions v i bs cat d =
+    condition 1 (wrongCatalogue v cat) ∷ onLayout (readCatalogue v cat) λ l.
+    condition 4 (wrongDisk l d) ∷ addChecks i bs l
+
+abbrev pub removeConditions : Version → ℕ → List ℕ → List ℕ → List Condition
+removeConditions v i cat d =
+    condition 1 (wrongCatalogue v cat) ∷ onLayout (readCatalogue v cat) λ l.
+    condition 4 (wrongDisk l d) ∷ fileChecks i l
+
+abbrev pub readConditions : Version → ℕ → ℕ → List ℕ → List ℕ → List ℕ → List Condition
+readConditions v i p o cat d =
+    condition 1 (wrongCatalogue v cat) ∷ onLayout (readCatalogue v cat) λ l.
+    condition 4 (wrongDisk l d) ∷ readChecks i p o l
+
 abbrev pub breaksConditions : Version → ℕ → List ℕ → List Condition
 breaksConditions v i cat =
-    condition 1 (wrongCatalogue v cat) ∷ onLayout (readCatalogue v cat) λ l.
-    condition 5 (eqb i 0) ∷ condition 6 (not (hasFile i (l .files))) ∷ []
+    condition 1 (wrongCatalogue v cat) ∷ onLayout (readCatalogue v cat) λ l. fileChecks i l
 
 abbrev pub freeConditions : Version → List ℕ → List Condition
 freeConditions v cat = condition 1 (wrongCatalogue v cat) ∷ onLayout (readCatalogue v cat) λ l. []

@@ -1,0 +1,163 @@
+-- How a row of the table of cases is computed: it starts from a format or from a given layout, makes its calls by
+-- the definitions of `Outcomes`, and shows replies, outputs, copies, the layout that is read afterwards, breaks,
+-- pages and blocks. Assumes nothing.
+use mathlib.Core.Bool.{_&&_, cond}
+use mathlib.Core.List.{List, [], _++_, _∷_, map}
+use Prim.Native.Nat.{ℕ}
+use lib.Count.{ones, onesIn}
+use lib.Dec.{eqb}
+use lib.ListN.{length, replicate}
+use Rattle.catalogue.specs.Encoding.{bigEndian, encode, entriesBytes, entryBytes, headerBytes, pairBytes}
+use Rattle.catalogue.specs.Encoding.{pairsBytes, usedBytes}
+use Rattle.catalogue.specs.Reading.{Reading, every, fileRead, isSound, judged, pairwise, readCatalogue, readEntries}
+use Rattle.catalogue.specs.Reading.{readEntry, readFrom, readHeader, readLayout, readPair, readPairs, sound}
+use Rattle.catalogue.specs.Reading.{unsound}
+use Rattle.catalogue.specs.Version.{version1}
+use Rattle.layout.specs.Adding.{allocate, takeFirst, takePiece}
+use Rattle.layout.specs.Layout.{File, Found, Layout, blockRun, blocksOf, breaksOf, filePieces, findFile, found}
+use Rattle.layout.specs.Layout.{freshLayout, missing, piecesFrom}
+use Rattle.layout.specs.Lists.{insertBy, sortBy}
+use Rattle.layout.specs.Removing.{Copy, copiesOf, copyRun, insertAll, layoutAfter, merge, mergeAll, mergePair}
+use Rattle.layout.specs.Removing.{nextMerge, release, removal, withoutFile}
+use Rattle.case_table.proofs.CaseRows.{FileSeen, Row, Seen, Start, filledBlocks, freshDisk, givenLayout}
+use Rattle.case_table.proofs.CaseRows.{untouched}
+use Rattle.manager.specs.Call.{Call, add, breaks, check, free, read, remove}
+use Rattle.manager.specs.Conditions.{Outcome, firstRefusal}
+use Rattle.manager.specs.Disk.{cutPages, joinPages, pageCount, pagesOn, runCopies, writePages}
+use Rattle.manager.specs.Outcomes.{addOutcome, breaksReply, checkReply, formatOutcome, freeReply, perform}
+use Rattle.manager.specs.Outcomes.{readOutcome, removeOutcome}
+use Rattle.section.specs.Limits.{blockSize, catalogueSize}
+use Rattle.section.specs.Sections.{buddyFirst, isAligned, isInside, isOnDisk, movedInto, parentFirst, sharesBlock}
+
+-- ---- blocks
+
+-- x if p is a whole block filled with x; else 256, which is no byte
+abbrev pub ifFilledWith : ℕ → List ℕ → ℕ
+ifFilledWith x p = cond (eqb (length p) blockSize && every (eqb x) p) x 256
+
+-- the byte that a block is filled with
+abbrev pub byteOf : List ℕ → ℕ
+byteOf [] = 256
+byteOf (x ∷ p) = ifFilledWith x (x ∷ p)
+
+-- the bytes of a buffer's whole blocks, one for each
+abbrev pub bytesOfBlocks : List ℕ → List ℕ
+bytesOfBlocks bs = map byteOf (cutPages (pageCount bs) bs)
+
+-- ---- what is shown
+
+-- each call, format first; the copies of the last removal; afterwards the layout that is read from the catalogue,
+-- its files, and the disk's blocks, one byte for each
+pub record Shown : Type 0 where
+  pub replies : List Seen
+  pub copies : List Copy
+  pub layout : Reading
+  pub files : List FileSeen
+  pub disk : List ℕ
+
+-- what a row is expected to show
+abbrev pub expected : Row → Shown
+expected r =
+    record {
+      replies = r .replies;
+      copies = r .copies;
+      layout = sound (r .layout);
+      files = r .files;
+      disk = r .disk;
+    }
+
+-- ---- the calls of a row
+
+-- a call of version 1; who unfolds this unfolds every definition that computing a call takes
+unfoldable pub performed : Call → List ℕ → List ℕ → Outcome
+unfolding onesIn ones buddyFirst parentFirst isAligned isOnDisk sharesBlock isInside movedInto takeFirst takePiece
+    allocate filePieces blockRun blocksOf breaksOf findFile piecesFrom freshLayout insertBy sortBy copyRun mergePair
+    merge nextMerge mergeAll copiesOf layoutAfter insertAll withoutFile release removal bigEndian pairBytes
+    pairsBytes entryBytes entriesBytes headerBytes usedBytes encode every pairwise isSound readFrom readPair
+    readPairs fileRead readEntry readEntries readHeader readLayout judged readCatalogue pagesOn cutPages joinPages
+    writePages runCopies firstRefusal formatOutcome addOutcome removeOutcome readOutcome breaksReply freeReply
+    checkReply
+performed c cat d = perform version1 c cat d
+
+-- the buffers, and what was seen so far
+pub record State : Type 0 where
+  pub replies : List Seen
+  pub copies : List Copy
+  pub catalogue : List ℕ
+  pub disk : List ℕ
+
+-- the copies of the removal of a file that is there
+abbrev pub copiesOfFound : Layout → Found → List Copy
+copiesOfFound l (found f) = copiesOf (removal (version1 .heights) f l)
+copiesOfFound l missing = []
+
+-- the copies of the removal of an id
+abbrev pub copiesOnReading : ℕ → Reading → List Copy
+copiesOnReading i (sound l) = copiesOfFound l (findFile i (l .files))
+copiesOnReading i unsound = []
+
+-- the copies of the last removal, after one more call
+abbrev pub lastCopies : Call → List ℕ → List Copy → List Copy
+lastCopies (add i bs) cat cs = cs
+lastCopies (remove i) cat cs = copiesOnReading i (readCatalogue version1 cat)
+lastCopies (read i p o) cat cs = cs
+lastCopies (breaks i) cat cs = cs
+lastCopies free cat cs = cs
+lastCopies check cat cs = cs
+
+-- the state after a call
+abbrev pub afterCall : Outcome → List Copy → State → State
+afterCall x cs s =
+    record {
+      replies = s .replies ++ (record { reply = x .reply; output = bytesOfBlocks (x .output) }) ∷ [];
+      copies = cs;
+      catalogue = x .catalogue;
+      disk = x .disk;
+    }
+
+-- the state after a list of calls, made one by one
+abbrev pub afterCalls : List Call → State → State
+afterCalls [] s = s
+afterCalls (c ∷ l) s =
+    afterCalls l (afterCall (performed c (s .catalogue) (s .disk)) (lastCopies c (s .catalogue) (s .copies)) s)
+
+-- format gets a catalogue buffer and a disk of other bytes; a given layout's block x is filled with the byte x
+abbrev pub startState : Start → State
+startState (freshDisk c) =
+    afterCall (formatOutcome version1 (replicate catalogueSize 255) (untouched c)) []
+    (record { replies = []; copies = []; catalogue = []; disk = [] })
+startState (givenLayout l) =
+    record { replies = []; copies = []; catalogue = encode version1 l; disk = filledBlocks 0 (l .blocks) }
+
+-- ---- what a state shows
+
+-- a file of the layout that was read
+abbrev pub seenFile : List ℕ → List ℕ → File → FileSeen
+seenFile cat d f =
+    record {
+      id = f .id;
+      breaksReplied = breaksReply version1 (f .id) cat;
+      blocks = blocksOf (f .pieces);
+      pages = map byteOf (pagesOn d (f .pieces));
+    }
+
+-- all its files
+abbrev pub seenFiles : List ℕ → List ℕ → Reading → List FileSeen
+seenFiles cat d (sound l) = map (seenFile cat d) (l .files)
+seenFiles cat d unsound = []
+
+-- everything that is compared
+abbrev pub shownBy : State → Shown
+shownBy s =
+    let reading : Reading = readCatalogue version1 (s .catalogue) in
+    record {
+      replies = s .replies;
+      copies = s .copies;
+      layout = reading;
+      files = seenFiles (s .catalogue) (s .disk) reading;
+      disk = bytesOfBlocks (s .disk);
+    }
+
+-- a row, computed
+abbrev pub computed : Row → Shown
+computed r = shownBy (afterCalls (r .calls) (startState (r .start)))

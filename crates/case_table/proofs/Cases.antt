@@ -1,0 +1,35 @@
+-- Cases 1 to 11 of document 01, proved together by computing every row of the table from the definitions of the
+-- calls, and the bytes of the catalogue of case 7. Assumes nothing.
+use mathlib.Core.List.{List, [], _++_, _∷_, map}
+use mathlib.Core.Path.{_≡_, refl}
+use Prim.Native.Nat.{_-_, ℕ}
+use lib.ListN.{replicate}
+use Rattle.case_table.proofs.CaseRows.{freshDisk, upToSeven}
+use Rattle.case_table.proofs.CaseRun.{afterCalls, computed, expected, performed, startState}
+use Rattle.case_table.proofs.CaseTable.{caseTable}
+
+-- every row shows what is expected of it
+pub cases-hold : map computed caseTable ≡ map expected caseTable
+unfolding performed
+cases-hold = refl
+
+-- the used bytes of the catalogue after case 7, written out by hand from document 01
+abbrev pub usedInSeven : List ℕ
+usedInSeven =
+    -- version, C, number of files
+    0 ∷ 1 ∷ 0 ∷ 16 ∷ 0 ∷ 2
+    -- id 2, n, its pair
+    ∷ 0 ∷ 2 ∷ 0 ∷ 2 ∷ 0 ∷ 4 ∷ 0 ∷ 2
+    -- id 9, n, its pair
+    ∷ 0 ∷ 9 ∷ 0 ∷ 1 ∷ 0 ∷ 7 ∷ 0 ∷ 1
+    -- the free pairs
+    ∷ 0 ∷ 0 ∷ 0 ∷ 4
+    ∷ 0 ∷ 6 ∷ 0 ∷ 1
+    ∷ 0 ∷ 8 ∷ 0 ∷ 8
+    ∷ []
+
+-- all 4,096 bytes of the catalogue after case 7: the used ones, and zero bytes to the end
+pub case-seven-bytes : afterCalls upToSeven (startState (freshDisk 16)) .catalogue
+    ≡ usedInSeven ++ replicate (4096 - 34) 0
+unfolding performed
+case-seven-bytes = refl

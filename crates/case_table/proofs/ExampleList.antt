@@ -1,0 +1,78 @@
+-- A list of ten mixed calls on a disk of 16 blocks, made by the manager and by the plain book side by side,
+-- computed: the replies of both, and the whole output of both, which is the same at each call. Assumes nothing.
+use mathlib.Core.List.{List, [], _∷_}
+use mathlib.Core.Path.{_≡_, refl}
+use Prim.Native.Nat.{ℕ}
+use lib.ListN.{replicate}
+use Rattle.catalogue.specs.Version.{version1}
+use Rattle.case_table.proofs.CaseRows.{contentOf, filledBlocks, untouched}
+use Rattle.case_table.proofs.CaseRun.{performed}
+use Rattle.manager.specs.Book.{Book, BookReply, BookStep, answers, anyNumber, bytesOf, contentPages}
+use Rattle.manager.specs.Book.{countFrom, freshBook, inBook, lineWith, pagesInLines, refuses, strikeLine}
+use Rattle.manager.specs.Book.{writeLine}
+use Rattle.manager.specs.Call.{Call, add, breaks, check, free, read, remove}
+use Rattle.manager.specs.Conditions.{Outcome, Reply, answered, refused}
+use Rattle.manager.specs.Outcomes.{formatOutcome}
+use Rattle.section.specs.Limits.{catalogueSize}
+
+-- what manager and book do at a call
+pub record Both : Type 0 where
+  pub manager : Reply
+  pub book : BookReply
+  pub managersOutput : List ℕ
+  pub booksOutput : List ℕ
+
+-- a call by the manager beside the same call in the book
+abbrev pub bothOf : Outcome → BookStep → Both
+bothOf x y = record { manager = x .reply; book = y .reply; managersOutput = x .output; booksOutput = y .output }
+
+-- the calls one by one, each on what the one before it left
+abbrev pub besideBook : List Call → List ℕ → List ℕ → Book → List Both
+besideBook [] cat d b = []
+besideBook (c ∷ l) cat d b =
+    let x : Outcome = performed c cat d in
+    let y : BookStep = inBook c b in
+    bothOf x y ∷ besideBook l (x .catalogue) (x .disk) (y .book)
+
+-- from the catalogue and the disk that format leaves, and a fresh book
+abbrev pub fromFormat : ℕ → List Call → List Both
+fromFormat c calls =
+    let x : Outcome = formatOutcome version1 (replicate catalogueSize 255) (untouched c) in
+    besideBook calls (x .catalogue) (x .disk) (freshBook c)
+
+-- the calls
+abbrev pub tenCalls : List Call
+tenCalls =
+    add 5 (contentOf 5 1)
+    ∷ add 9 (contentOf 9 3)
+    ∷ add 2 (contentOf 2 1)
+    ∷ breaks 9
+    ∷ remove 5
+    ∷ read 9 1 (untouched 2)
+    ∷ read 2 1 (untouched 1)
+    ∷ add 7 (contentOf 7 13)
+    ∷ free
+    ∷ check
+    ∷ []
+
+-- replies of the manager and of the book, and the output of both
+abbrev pub bothReply : Reply → BookReply → List ℕ → Both
+bothReply r s o = record { manager = r; book = s; managersOutput = o; booksOutput = o }
+
+-- the book has no number for breaks and for a removal; the removal copies all pages of id 9, and the read gives its
+-- last two, which lie in two pieces
+pub ten-calls :
+    fromFormat 16 tenCalls
+    ≡ bothReply (answered 1) (answers 1) []
+    ∷ bothReply (answered 3) (answers 3) []
+    ∷ bothReply (answered 1) (answers 1) []
+    ∷ bothReply (answered 1) anyNumber []
+    ∷ bothReply (answered 3) anyNumber []
+    ∷ bothReply (answered 2) (answers 2) (filledBlocks 145 2)
+    ∷ bothReply (refused 9) (refuses 9) (untouched 1)
+    ∷ bothReply (refused 11) (refuses 11) []
+    ∷ bothReply (answered 12) (answers 12) []
+    ∷ bothReply (answered 16) (answers 16) []
+    ∷ []
+unfolding performed countFrom contentPages bytesOf pagesInLines lineWith writeLine strikeLine
+ten-calls = refl

@@ -1,0 +1,6 @@
+-- Cases 1 to 11 of document 01 as one table, and a list of ten calls beside the book.
+pub mod CaseRows
+pub mod CaseTable
+pub mod CaseRun
+pub mod Cases
+pub mod ExampleList

@@ -1,0 +1,95 @@
+-- Cases 3, 4, 7, 9, 10 and 11 of document 01 on layouts alone, computed: they pin the definitions within this
+-- crate. The table of all cases on bytes is in the crate `manager`. Assumes nothing.
+use mathlib.Core.List.{List, [], _∷_}
+use mathlib.Core.Path.{_≡_, refl}
+use Prim.Native.Nat.{ℕ}
+use Rattle.layout.specs.Adding.{allocate, allocated, takeFirst, takePiece}
+use Rattle.layout.specs.Layout.{File, Layout, blockRun, blocksOf, freshLayout, piecesFrom}
+use Rattle.layout.specs.Lists.{insertBy, sortBy}
+use Rattle.layout.specs.Removing.{Copy, copiesOf, copyRun, insertAll, layoutAfter, merge, mergeAll, mergePair}
+use Rattle.layout.specs.Removing.{nextMerge, release, removal, withoutFile}
+use Rattle.section.specs.Sections.{buddyFirst, isInside, movedInto, parentFirst, section}
+use Rattle.section.specs.declared.Section.{Section}
+
+abbrev file : ℕ → List Section → File
+file i l = record { id = i; pieces = l }
+
+abbrev copy : ℕ → ℕ → Copy
+copy a b = record { source = a; target = b }
+
+-- case 3: longest first from block 0
+pub case-three : freshLayout 13 261 .free ≡ section 0 8 ∷ section 256 2 ∷ section 260 0 ∷ []
+unfolding freshLayout piecesFrom
+case-three = refl
+
+-- case 4: the lower half is used, the upper joins the free pieces
+pub case-four : allocate 0 13 3 (section 0 4 ∷ [])
+    ≡ allocated (section 0 1 ∷ section 2 0 ∷ []) (section 3 0 ∷ section 4 2 ∷ section 8 3 ∷ [])
+unfolding allocate takePiece takeFirst insertBy
+case-four = refl
+
+-- a removal: its copies, and the layout that it leaves
+pub record Removed : Type 0 where
+  pub copies : List Copy
+  pub after : Layout
+
+abbrev removed : File → Layout → Removed
+removed f l = record { copies = copiesOf (removal 13 f l); after = layoutAfter (release f l) (removal 13 f l) }
+
+-- cases 7, 9, 10 and 11
+pub removals :
+    removed (file 5 (section 0 1 ∷ section 2 0 ∷ []))
+    (record {
+      blocks = 16;
+      files = file 2 (section 4 1 ∷ []) ∷ file 5 (section 0 1 ∷ section 2 0 ∷ []) ∷ file 9 (section 3 0 ∷ []) ∷ [];
+      free = section 6 1 ∷ section 8 3 ∷ [];
+    })
+    ∷ removed (file 1 (section 0 0 ∷ []))
+    (record { blocks = 2; files = file 1 (section 0 0 ∷ []) ∷ []; free = section 1 0 ∷ [] })
+    ∷ removed (file 1 (section 4 0 ∷ []))
+    (record {
+      blocks = 5;
+      files = file 1 (section 4 0 ∷ []) ∷ file 2 (section 0 0 ∷ []) ∷ [];
+      free = section 1 0 ∷ section 2 1 ∷ [];
+    })
+    ∷ removed (file 1 (section 13 0 ∷ []))
+    (record {
+      blocks = 16;
+      files =
+          file 1 (section 13 0 ∷ []) ∷ file 2 (section 0 2 ∷ section 4 1 ∷ section 6 0 ∷ [])
+          ∷ file 3 (section 8 2 ∷ section 12 0 ∷ []) ∷ [];
+      free = section 7 0 ∷ section 14 1 ∷ [];
+    })
+    ∷ []
+    ≡ (record {
+      copies = copy 2 6 ∷ copy 3 7 ∷ [];
+      after = record {
+        blocks = 16;
+        files = file 2 (section 4 1 ∷ []) ∷ file 9 (section 7 0 ∷ []) ∷ [];
+        free = section 0 2 ∷ section 6 0 ∷ section 8 3 ∷ [];
+      };
+    })
+    ∷ (record { copies = []; after = record { blocks = 2; files = []; free = section 0 1 ∷ [] } })
+    ∷ (record {
+      copies = copy 0 4 ∷ [];
+      after = record { blocks = 5; files = file 2 (section 4 0 ∷ []) ∷ []; free = section 0 2 ∷ [] };
+    })
+    ∷ (record {
+      copies = copy 6 13 ∷ copy 4 14 ∷ copy 5 15 ∷ [];
+      after = record {
+        blocks = 16;
+        files =
+            file 2 (section 0 2 ∷ section 14 1 ∷ section 13 0 ∷ []) ∷ file 3 (section 8 2 ∷ section 12 0 ∷ []) ∷ [];
+        free = section 4 2 ∷ [];
+      };
+    })
+    ∷ []
+unfolding removal release mergeAll nextMerge mergePair merge takeFirst copyRun copiesOf layoutAfter insertAll
+    withoutFile insertBy sortBy movedInto isInside buddyFirst parentFirst
+removals = refl
+
+-- case 11: id 2 is read as blocks 0 to 3, 14, 15, 13
+pub case-eleven-blocks : blocksOf (section 0 2 ∷ section 14 1 ∷ section 13 0 ∷ [])
+    ≡ 0 ∷ 1 ∷ 2 ∷ 3 ∷ 14 ∷ 15 ∷ 13 ∷ []
+unfolding blocksOf blockRun
+case-eleven-blocks = refl

@@ -1,0 +1,96 @@
+-- A call that is refused changes no buffer: catalogue, disk and output are as they were. Assumes nothing.
+use mathlib.Core.List.{List, []}
+use mathlib.Core.Path.{_≡_, refl}
+use Prim.Native.Nat.{ℕ}
+use native.Mathlib.Omega.{arith}
+use lib.ListN.{length}
+use Rattle.catalogue.specs.Encoding.{encode}
+use Rattle.catalogue.specs.Reading.{Reading, readCatalogue, sound, unsound}
+use Rattle.catalogue.specs.Version.{Version}
+use Rattle.layout.specs.Adding.{Allocated, allocate, allocated, tooFew}
+use Rattle.layout.specs.Layout.{Found, findFile, found, freshLayout, missing}
+use Rattle.layout.specs.Removing.{copiesOf, removal}
+use Rattle.manager.specs.Call.{Call, add, breaks, check, free, outputOf, read, remove}
+use Rattle.manager.specs.Conditions.{Judgement, Outcome, Reply, addConditions, allowed, answered}
+use Rattle.manager.specs.Conditions.{firstRefusal, formatConditions, outcome, readConditions, refusal}
+use Rattle.manager.specs.Conditions.{refused, removeConditions, unlessRefused}
+use Rattle.manager.specs.Disk.{pageCount}
+use Rattle.manager.specs.Outcomes.{addOutcome, addPieces, breaksReply, checkReply, doAdd, doRead, doRemove}
+use Rattle.manager.specs.Outcomes.{formatOutcome, freeReply, perform, readFound, readOutcome, removeFound}
+use Rattle.manager.specs.Outcomes.{removeOutcome}
+
+-- the buffers after a call are those before it
+pub record Unchanged (cat d o : List ℕ) (x : Outcome) : Type 0 where
+  pub catalogue : x .catalogue ≡ cat
+  pub disk : x .disk ≡ d
+  pub output : x .output ≡ o
+
+-- a refusal leaves the buffers
+abbrev RefusedUnchanged : List ℕ → List ℕ → List ℕ → Outcome → Type 0
+RefusedUnchanged cat d o x = (n : ℕ) → x .reply ≡ refused n → Unchanged cat d o x
+
+-- an answer is no refusal
+pub answered-not-refused : (m n : ℕ) → answered m ≡ refused n → ⊥
+answered-not-refused m n e = let z : _≡_ {A = ℕ} 0 1 = cc in omega arith
+
+module _ (cat d : List ℕ) where
+  same-buffers : (r : Reply) (o : List ℕ) → Unchanged cat d o (outcome r cat d o)
+  same-buffers r o = record { catalogue = refl; disk = refl; output = refl }
+
+  unless-unchanged : (o : List ℕ) (j : Judgement) (act : Outcome) → RefusedUnchanged cat d o act
+      → RefusedUnchanged cat d o (unlessRefused j cat d o act)
+  unless-unchanged o allowed act h = h
+  unless-unchanged o (refusal m) act h = λ n e. same-buffers (refused m) o
+
+  add-unchanged : (v : Version) (i : ℕ) (bs : List ℕ) (x : Reading)
+      → RefusedUnchanged cat d [] (doAdd v i bs cat d x)
+  add-unchanged v i bs (sound l) = go (allocate 0 (v .heights) (pageCount bs) (l .free))
+    where
+      go : (a : Allocated) → RefusedUnchanged cat d [] (addPieces v i bs cat d l a)
+      go (allocated s r) n e = absurd (answered-not-refused (pageCount bs) n e)
+      go tooFew n e = same-buffers (refused 11) []
+  add-unchanged v i bs unsound = λ n e. same-buffers (refused 3) []
+
+  remove-unchanged : (v : Version) (i : ℕ) (x : Reading) → RefusedUnchanged cat d [] (doRemove v i cat d x)
+  remove-unchanged v i (sound l) = go (findFile i (l .files))
+    where
+      go : (x : Found) → RefusedUnchanged cat d [] (removeFound v cat d l x)
+      go (found f) n e = absurd (answered-not-refused (length (copiesOf (removal (v .heights) f l))) n e)
+      go missing n e = same-buffers (refused 6) []
+  remove-unchanged v i unsound = λ n e. same-buffers (refused 3) []
+
+  read-unchanged : (i p : ℕ) (o : List ℕ) (x : Reading) → RefusedUnchanged cat d o (doRead i p o cat d x)
+  read-unchanged i p o (sound l) = go (findFile i (l .files))
+    where
+      go : (x : Found) → RefusedUnchanged cat d o (readFound p o cat d x)
+      go (found f) n e = absurd (answered-not-refused (pageCount o) n e)
+      go missing n e = same-buffers (refused 6) o
+  read-unchanged i p o unsound = λ n e. same-buffers (refused 3) o
+
+-- a call of a list that is refused changes no buffer
+pub refused-changes-nothing : (v : Version) (c : Call) (cat d : List ℕ) (n : ℕ)
+    → perform v c cat d .reply ≡ refused n
+    → Unchanged cat d (outputOf c) (perform v c cat d)
+unfolding addOutcome removeOutcome readOutcome
+refused-changes-nothing v (add i bs) cat d =
+    unless-unchanged cat d [] (firstRefusal (addConditions v i bs cat d)) (doAdd v i bs cat d (readCatalogue v cat))
+    (add-unchanged cat d v i bs (readCatalogue v cat))
+refused-changes-nothing v (remove i) cat d =
+    unless-unchanged cat d [] (firstRefusal (removeConditions v i cat d)) (doRemove v i cat d (readCatalogue v cat))
+    (remove-unchanged cat d v i (readCatalogue v cat))
+refused-changes-nothing v (read i p o) cat d =
+    unless-unchanged cat d o (firstRefusal (readConditions v i p o cat d))
+    (doRead i p o cat d (readCatalogue v cat)) (read-unchanged cat d i p o (readCatalogue v cat))
+refused-changes-nothing v (breaks i) cat d = λ n e. same-buffers cat d (breaksReply v i cat) []
+refused-changes-nothing v free cat d = λ n e. same-buffers cat d (freeReply v cat) []
+refused-changes-nothing v check cat d = λ n e. same-buffers cat d (checkReply v cat d) []
+
+-- a format that is refused changes no buffer
+pub format-refused-changes-nothing : (v : Version) (cat d : List ℕ) (n : ℕ)
+    → formatOutcome v cat d .reply ≡ refused n
+    → Unchanged cat d [] (formatOutcome v cat d)
+unfolding formatOutcome
+format-refused-changes-nothing v cat d =
+    unless-unchanged cat d [] (firstRefusal (formatConditions v cat d))
+    (outcome (answered (pageCount d)) (encode v (freshLayout (v .heights) (pageCount d))) d [])
+    (λ n e. absurd (answered-not-refused (pageCount d) n e))

@@ -1,5 +1,5 @@
 -- What is encoded is read back: pairs and entries from their bytes. Assumes nothing.
-use mathlib.Core.Bool.{true}
+use mathlib.Core.Bool.{false, true}
 use mathlib.Core.List.{List, _++_, _∷_}
 use mathlib.Core.Path.{_∙_, _≡_, ap, refl, sym}
 use Prim.Native.Nat.{_-_, _<_, _^_, _≤_, suc, ℕ}
@@ -11,14 +11,14 @@ use borrow.Author.Tests.{eq-eqb, lt-ltb}
 use Rattle.catalogue.proofs.Fields.{field-back}
 use Rattle.catalogue.proofs.Grouping.{entries-cons, entry-fields, pairs-cons}
 use Rattle.catalogue.proofs.Sorting.{sort-back}
-use Rattle.catalogue.proofs.Tests.{pairs-pairwise}
+use Rattle.catalogue.proofs.Tests.{and-intro, pairs-pairwise}
 use Rattle.catalogue.specs.Encoding.{bigEndian, byteValues, entriesBytes, entryBytes, pairsBytes, shortField}
-use Rattle.catalogue.specs.Reading.{fileRead, got, pairwise, readEntries, readEntry, readField, readPair}
-use Rattle.catalogue.specs.Reading.{readPairs, sectionRead, then}
+use Rattle.catalogue.specs.Reading.{Read, bad, fileRead, got, pairwise, readEntries, readEntry, readField}
+use Rattle.catalogue.specs.Reading.{readPair, readPairs, sectionRead, then}
 use Rattle.layout.proofs.Lists.{each-sort, length-sort, pairwise-imp, sum-sort}
 use Rattle.layout.proofs.Soundness.{rising-strict}
 use Rattle.layout.proofs.Taking.{sort-rising}
-use Rattle.layout.specs.Layout.{File, blockCount, byFirst, fileBlocks, holdsBlock}
+use Rattle.layout.specs.Layout.{File, blockCount, byFirst, byLength, fileBlocks, holdsBlock}
 use Rattle.layout.specs.Lists.{Each, Pairwise, done, more, sortBy, sumOf}
 use Rattle.layout.specs.Sound.{greatestId}
 use Rattle.section.proofs.Lengths.{height-up-to}
@@ -92,8 +92,12 @@ module _ (k w : ℕ) where
 
       from : fileRead (f .id) (fileBlocks f) l r ≡ got f r
       from =
-          rw (eq-eqb (blockCount l) (fileBlocks f) (sum-sort lengthOf byFirst (f .pieces)), rising, fileRead)
-          (ap (λ z. got (record { id = f .id; pieces = z }) r) (sort-back (g .order)))
+          ap (λ t. elim t as (λ _. Read File) [
+            | true ↦ got (record { id = f .id; pieces = sortBy byLength l }) r
+            | false ↦ bad
+          ])
+          (and-intro (eq-eqb (blockCount l) (fileBlocks f) (sum-sort lengthOf byFirst (f .pieces))) rising)
+          ∙ ap (λ z. got (record { id = f .id; pieces = z }) r) (sort-back (g .order))
 
   pub entries-back : {fs : List File} (r : List ℕ) → Each FileFits fs
       → readEntries (length fs) k w (entriesBytes w fs ++ r) ≡ got fs r

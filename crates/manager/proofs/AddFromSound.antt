@@ -4,6 +4,7 @@ use mathlib.Core.List.{List, [], map}
 use mathlib.Core.Path.{_∙_, _≡_, ap₂, refl, subst, sym}
 use Prim.Native.Nat.{_*_, _+_, _<_, _≤_, ℕ}
 use native.Mathlib.Omega.{arith}
+use lib.Dec.{eqb, leb, ltb}
 use lib.ListN.{length}
 use borrow.Author.Tests.{le-ltb, lt-leb, ne-eqb}
 use Rattle.catalogue.proofs.Roomy.{Roomy}
@@ -16,15 +17,15 @@ use Rattle.layout.proofs.SoundSums.{SoundSums}
 use Rattle.layout.proofs.Soundness.{sound-sums, sums-sound}
 use Rattle.layout.specs.Adding.{allocate, allocated, withFile}
 use Rattle.layout.specs.Layout.{Layout, blocksOf, filePieces, freeBlocks, hasFile, holdsBlock}
-use Rattle.layout.specs.Lists.{Each, sumOf}
+use Rattle.layout.specs.Lists.{Each, done, more, sumOf}
 use Rattle.layout.specs.Sound.{Sound, greatestId}
 use Rattle.manager.proofs.Contents.{content-pages, cut-paged, paged-length}
 use Rattle.manager.proofs.Lines.{write-line}
-use Rattle.manager.proofs.OnSound.{add-on-sound}
+use Rattle.manager.proofs.OnSound.{add-on-sound, none-applies}
 use Rattle.manager.proofs.Writing.{Paged, lines-same, write-back, write-length, write-other}
 use Rattle.manager.specs.Book.{contentPages, writeLine}
-use Rattle.manager.specs.Conditions.{Outcome, addChecks, allowed, answered, firstRefusal, unlessRefused}
-use Rattle.manager.specs.Conditions.{unpaged}
+use Rattle.manager.specs.Conditions.{Outcome, addChecks, allowed, answered, condition, firstRefusal}
+use Rattle.manager.specs.Conditions.{unlessRefused, unpaged}
 use Rattle.manager.specs.Disk.{block, cutPages, pageCount, pagesOn, writePages}
 use Rattle.manager.specs.Outcomes.{addOutcome, addPieces}
 use Rattle.manager.specs.WholeList.{lineOn}
@@ -119,15 +120,14 @@ module _ (v : Version) (room : Roomy v) (l : Layout) (s : Sound (v .heights) l) 
       (adds-pieces (x .0) (x .1) (x .2) (x .3))
 
   no-condition : firstRefusal (addChecks i bs l) ≡ allowed
-  unfolding firstRefusal
   no-condition =
-      rw (
-        ne-eqb i 0 (λ z. omega arith),
-        fresh,
-        paged,
-        lt-leb mostFiles (length (l .files)) few,
-        le-ltb (freeBlocks l) (pageCount bs) fits,
-      )
+      none-applies
+      (more {a = condition 5 (eqb i 0)} (ne-eqb i 0 (λ z. omega arith))
+      (more {a = condition 7 (hasFile i (l .files))} fresh
+      (more {a = condition 8 (unpaged bs)} paged
+      (more {a = condition 10 (leb mostFiles (length (l .files)))} (lt-leb mostFiles (length (l .files)) few)
+      (more {a = condition 11 (ltb (freeBlocks l) (pageCount bs))}
+      (le-ltb (freeBlocks l) (pageCount bs) fits) done)))))
 
   -- from any sound catalogue
   pub add-from-sound : Adds v l d i bs (addOutcome v i bs (encode v l) d)

@@ -1,7 +1,7 @@
 -- The calls on the catalogue of a sound layout: past the conditions of the buffers. Assumes nothing.
-use mathlib.Core.Bool.{false, not}
+use mathlib.Core.Bool.{false, not, true}
 use mathlib.Core.List.{List, [], _∷_}
-use mathlib.Core.Path.{_∙_, _≡_, ap, ap₂}
+use mathlib.Core.Path.{_∙_, _≡_, ap, ap₂, refl}
 use Prim.Native.Nat.{_*_, ℕ}
 use lib.ListN.{length}
 use borrow.Author.Tests.{eq-eqb}
@@ -13,15 +13,24 @@ use Rattle.catalogue.specs.Reading.{readCatalogue, sound}
 use Rattle.catalogue.specs.Version.{Version}
 use Rattle.layout.specs.Adding.{allocate}
 use Rattle.layout.specs.Layout.{Layout, findFile, freeBlocks}
+use Rattle.layout.specs.Lists.{Each, done, more}
 use Rattle.layout.specs.Sound.{Sound}
-use Rattle.manager.specs.Conditions.{Condition, addChecks, answered, condition, fileChecks, firstRefusal}
-use Rattle.manager.specs.Conditions.{onLayout, readChecks, replyUnless, unlessRefused, wrongCatalogue}
-use Rattle.manager.specs.Conditions.{wrongDisk}
+use Rattle.manager.specs.Conditions.{Condition, Judgement, addChecks, allowed, answered, condition}
+use Rattle.manager.specs.Conditions.{fileChecks, firstRefusal, onLayout, readChecks, refusal, replyUnless}
+use Rattle.manager.specs.Conditions.{unlessRefused, wrongCatalogue, wrongDisk}
 use Rattle.manager.specs.Disk.{pageCount}
 use Rattle.manager.specs.Outcomes.{addOutcome, addPieces, breaksFound, breaksReply, checkReply, doAdd}
 use Rattle.manager.specs.Outcomes.{doBreaks, doCheck, doFree, doRead, doRemove, freeReply, readFound}
 use Rattle.manager.specs.Outcomes.{readOutcome, removeFound, removeOutcome}
 use Rattle.section.specs.Limits.{blockSize}
+
+-- a call is allowed if none of its conditions applies
+pub none-applies : {cs : List Condition} → Each (λ (c : Condition). c .applies ≡ false) cs
+    → firstRefusal cs ≡ allowed
+unfolding firstRefusal
+none-applies done = refl
+none-applies (more {a = c} {l = cs} p e) =
+    ap (λ t. elim t as (λ _. Judgement) [ true ↦ refusal (c .number) | false ↦ firstRefusal cs ]) p ∙ none-applies e
 
 module _ (v : Version) (room : Roomy v) (l : Layout) (s : Sound (v .heights) l) where
   read-back : readCatalogue v (encode v l) ≡ sound l

@@ -15,17 +15,17 @@ use Rattle.layout.proofs.Finding.{find-each, found-find, found-inserted}
 use Rattle.layout.proofs.Lists.{each-left}
 use Rattle.layout.proofs.Occurs.{blocks-within}
 use Rattle.layout.specs.Adding.{withFile}
-use Rattle.layout.specs.Layout.{File, Layout, fileBlocks, filePieces, findFile, found, freeBlocks, hasFile}
+use Rattle.layout.specs.Layout.{File, Layout, fileBlocks, filePieces, findFile, found, freeBlocks, hasFile, isFound}
 use Rattle.layout.specs.Lists.{Each, done, more}
 use Rattle.layout.specs.Sound.{Sound, greatestId}
 use Rattle.manager.proofs.AddFromSound.{add-from-sound}
 use Rattle.manager.proofs.Blocks.{block-length}
 use Rattle.manager.proofs.Contents.{cut-paged, join-length, paged-length, pages-joined}
 use Rattle.manager.proofs.Lines.{pages-length}
-use Rattle.manager.proofs.OnSound.{read-on-sound}
+use Rattle.manager.proofs.OnSound.{none-applies, read-on-sound}
 use Rattle.manager.proofs.Writing.{Paged}
-use Rattle.manager.specs.Conditions.{Outcome, allowed, answered, firstRefusal, outcome, readChecks}
-use Rattle.manager.specs.Conditions.{unlessRefused, unpaged}
+use Rattle.manager.specs.Conditions.{Outcome, allowed, answered, beyond, condition, firstRefusal, outcome}
+use Rattle.manager.specs.Conditions.{readChecks, unlessRefused, unpaged}
 use Rattle.manager.specs.Disk.{block, cutPages, joinPages, pageCount, pagesOn}
 use Rattle.manager.specs.Outcomes.{addOutcome, readFound, readOutcome}
 use Rattle.section.specs.Limits.{blockSize, mostFiles}
@@ -55,9 +55,13 @@ module _ (v : Version) (room : Roomy v) (l : Layout) (s : Sound (v .heights) l) 
   read-allowed : (i p : ℕ) (o : List ℕ) (f : File) → 1 ≤ i → findFile i (l .files) ≡ found f → unpaged o ≡ false
       → p + pageCount o ≤ fileBlocks f
       → firstRefusal (readChecks i p o l) ≡ allowed
-  unfolding firstRefusal
   read-allowed i p o f least e paged fits =
-      rw (ne-eqb i 0 (λ z. omega arith), e, paged, le-ltb (fileBlocks f) (p + pageCount o) fits)
+      none-applies
+      (more {a = condition 5 (eqb i 0)} (ne-eqb i 0 (λ z. omega arith))
+      (more {a = condition 6 (not (hasFile i (l .files)))} (ap (λ x. not (isFound x)) e)
+      (more {a = condition 8 (unpaged o)} paged
+      (more {a = condition 9 (beyond (findFile i (l .files)) p (pageCount o))}
+      (ap (λ x. beyond x p (pageCount o)) e ∙ le-ltb (fileBlocks f) (p + pageCount o) fits) done))))
 
   -- an answered read, from any sound catalogue
   pub read-from-sound : (i p : ℕ) (o : List ℕ) (f : File) → 1 ≤ i → findFile i (l .files) ≡ found f

@@ -1,8 +1,10 @@
 -- What a removal promises from any sound catalogue with a disk of the right length. Assumes nothing.
+use mathlib.Core.Bool.{not}
 use mathlib.Core.List.{List, [], map}
 use mathlib.Core.Path.{_∙_, _≡_, ap, refl, subst, sym}
 use Prim.Native.Nat.{_*_, _≤_, ℕ}
 use native.Mathlib.Omega.{arith}
+use lib.Dec.{eqb}
 use lib.ListN.{length}
 use borrow.Author.Tests.{ne-eqb}
 use Rattle.catalogue.proofs.Roomy.{Roomy}
@@ -15,15 +17,16 @@ use Rattle.layout.proofs.Removed.{Removes, removal-keeps}
 use Rattle.layout.proofs.SoundSums.{SoundSums}
 use Rattle.layout.proofs.Soundness.{sound-sums, sums-sound}
 use Rattle.layout.specs.Carries.{carries}
-use Rattle.layout.specs.Layout.{File, Layout, fileBlocks, findFile, found, freeBlocks, isFound}
-use Rattle.layout.specs.Lists.{Each}
+use Rattle.layout.specs.Layout.{File, Layout, fileBlocks, findFile, found, freeBlocks, hasFile, isFound}
+use Rattle.layout.specs.Lists.{Each, done, more}
 use Rattle.layout.specs.Removing.{Copy, copiesOf, layoutAfter, release, removal}
 use Rattle.layout.specs.Sound.{Sound}
 use Rattle.manager.proofs.Blocks.{copies-block, copies-length}
 use Rattle.manager.proofs.Lines.{find-strike, moved-lines}
-use Rattle.manager.proofs.OnSound.{remove-on-sound}
+use Rattle.manager.proofs.OnSound.{none-applies, remove-on-sound}
 use Rattle.manager.specs.Book.{strikeLine}
-use Rattle.manager.specs.Conditions.{Outcome, allowed, answered, fileChecks, firstRefusal, unlessRefused}
+use Rattle.manager.specs.Conditions.{Outcome, allowed, answered, condition, fileChecks, firstRefusal}
+use Rattle.manager.specs.Conditions.{unlessRefused}
 use Rattle.manager.specs.Disk.{block, runCopies}
 use Rattle.manager.specs.Outcomes.{afterMerges, removeFound, removeOutcome}
 use Rattle.manager.specs.WholeList.{lineOn}
@@ -80,8 +83,10 @@ module _ (v : Version) (room : Roomy v) (l : Layout) (s : Sound (v .heights) l) 
   }
 
   no-condition : 1 ≤ i → firstRefusal (fileChecks i l) ≡ allowed
-  unfolding firstRefusal
-  no-condition least = rw (ne-eqb i 0 (λ z. omega arith), ap isFound e)
+  no-condition least =
+      none-applies
+      (more {a = condition 5 (eqb i 0)} (ne-eqb i 0 (λ z. omega arith))
+      (more {a = condition 6 (not (hasFile i (l .files)))} (ap (λ x. not (isFound x)) e) done))
 
   -- from any sound catalogue
   pub remove-from-sound : 1 ≤ i → RemovesFrom v l d f (removeOutcome v i (encode v l) d)

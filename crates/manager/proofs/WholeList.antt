@@ -21,11 +21,12 @@ use Rattle.layout.proofs.Swaps.{same}
 use Rattle.layout.specs.Carries.{carries}
 use Rattle.layout.specs.Layout.{File, Found, Layout, fileBlocks, findFile, found, freeBlocks, freshLayout, isFound}
 use Rattle.layout.specs.Layout.{missing}
+use Rattle.layout.specs.Lists.{done, more}
 use Rattle.layout.specs.Removing.{copiesOf, removal}
 use Rattle.layout.specs.Sound.{Sound}
 use Rattle.manager.proofs.Agreement.{call-agrees}
 use Rattle.manager.proofs.Contents.{length-paged}
-use Rattle.manager.proofs.OnSound.{remove-on-catalogue}
+use Rattle.manager.proofs.OnSound.{none-applies, remove-on-catalogue}
 use Rattle.manager.proofs.Standing.{Standing, standing-afterwards}
 use Rattle.manager.proofs.Steps.{StepClaim, answered-same, claim-agrees, refused-answered}
 use Rattle.manager.specs.Book.{Book, freshBook, inBook}
@@ -62,13 +63,13 @@ module _ (v : Version) (room : Roomy v) where
   module _ (c : ℕ) (cat d : List ℕ) (low : 1 ≤ c) (high : c ≤ greatestBlocks v) (lc : length cat ≡ v .bytes)
       (ld : length d ≡ blockSize * c) where
     no-condition : firstRefusal (formatConditions v cat d) ≡ allowed
-    unfolding firstRefusal
     no-condition =
         let p = length-paged d c low ld in
         let size : wrongCatalogue v cat ≡ false = ap not (eq-eqb (length cat) (v .bytes) lc) in
         let disk : noDisk v d ≡ false =
         ap₂ (λ s t. s || t) (p .0) (le-ltb (greatestBlocks v) (pageCount d) (omega (arith, p .1))) in
-        rw (size, disk)
+        none-applies
+        (more {a = condition 1 (wrongCatalogue v cat)} size (more {a = condition 2 (noDisk v d)} disk done))
 
     -- format on buffers of the right lengths
     pub format-is : formatOutcome v cat d ≡ outcome (answered c) (encode v (freshLayout (v .heights) c)) d []

@@ -1,1 +1,1 @@
-// The catalogue's bytes: fields, entries, soundness. So far the definitions and their laws; no code.
+// The bytes of a catalogue, as definitions and laws. The code over them is the crate `codec`.

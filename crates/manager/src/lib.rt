@@ -1,1 +1,1 @@
-// The calls: order of checks, the disk's blocks, answers. So far the definitions and the claim about lists of calls; no code.
+// The calls, the plain book and the claim about every list of calls, as definitions and laws. The code is the crate `calls`.

@@ -1,17 +1,19 @@
 -- What an add promises from any sound catalogue with a disk of the right length. Assumes nothing.
 use mathlib.Core.Bool.{false}
 use mathlib.Core.List.{List, [], map}
+use mathlib.Core.Logic.{_↔_}
 use mathlib.Core.Path.{_∙_, _≡_, ap₂, refl, subst, sym}
 use Prim.Native.Nat.{_*_, _+_, _<_, _≤_, ℕ}
 use native.Mathlib.Omega.{arith}
 use lib.Dec.{eqb, leb, ltb}
 use lib.ListN.{length}
-use borrow.Author.Tests.{le-ltb, lt-leb, ne-eqb}
+use borrow.Author.Tests.{le-ltb, lt-leb, ltb-false, ne-eqb}
 use Rattle.catalogue.proofs.Roomy.{Roomy}
 use Rattle.catalogue.specs.Encoding.{encode}
 use Rattle.catalogue.specs.Version.{Version}
 use Rattle.layout.proofs.Added.{added-once, added-size, added-sound, allocate-fits}
 use Rattle.layout.proofs.Allocating.{Allocates}
+use Rattle.layout.proofs.Lists.{each-head, each-tail}
 use Rattle.layout.proofs.Occurs.{blocks-within, length-blocks, occurs-blocks}
 use Rattle.layout.proofs.SoundSums.{SoundSums}
 use Rattle.layout.proofs.Soundness.{sound-sums, sums-sound}
@@ -21,7 +23,7 @@ use Rattle.layout.specs.Lists.{Each, done, more, sumOf}
 use Rattle.layout.specs.Sound.{Sound, greatestId}
 use Rattle.manager.proofs.Contents.{content-pages, cut-paged, paged-length}
 use Rattle.manager.proofs.Lines.{write-line}
-use Rattle.manager.proofs.OnSound.{add-on-sound, none-applies}
+use Rattle.manager.proofs.OnSound.{add-on-sound, allowed-none, answered-allowed, none-applies}
 use Rattle.manager.proofs.Writing.{Paged, lines-same, write-back, write-length, write-other}
 use Rattle.manager.specs.Book.{contentPages, writeLine}
 use Rattle.manager.specs.Conditions.{Outcome, addChecks, allowed, answered, condition, firstRefusal}
@@ -137,3 +139,18 @@ module _ (v : Version) (room : Roomy v) (l : Layout) (s : Sound (v .heights) l) 
       (unlessRefused j (encode v l) d []
       (addPieces v i bs (encode v l) d l (allocate 0 (v .heights) (pageCount bs) (l .free)))))
       (sym no-condition) adds)
+
+-- adding succeeds exactly if n is at most f
+pub add-answered-iff : (v : Version) → Roomy v → (l : Layout) → Sound (v .heights) l → (d : List ℕ)
+    → length d ≡ blockSize * l .blocks
+    → (i : ℕ) (bs : List ℕ) → 1 ≤ i → i ≤ greatestId → hasFile i (l .files) ≡ false → unpaged bs ≡ false
+    → length (l .files) < mostFiles
+    → (addOutcome v i bs (encode v l) d .reply ≡ answered (pageCount bs)) ↔ (pageCount bs ≤ freeBlocks l)
+add-answered-iff v room l s d ld i bs least most fresh paged few = (
+  λ e. (let q = subst (λ (o : Outcome). o .reply ≡ answered (pageCount bs)) (add-on-sound v room l s d ld i bs) e in
+      let passed = allowed-none (addChecks i bs l)
+      (answered-allowed (firstRefusal (addChecks i bs l)) (encode v l) d []
+      (addPieces v i bs (encode v l) d l (allocate 0 (v .heights) (pageCount bs) (l .free))) (pageCount bs) q) in
+      ltb-false (freeBlocks l) (pageCount bs) (each-head (each-tail (each-tail (each-tail (each-tail passed)))))),
+  λ fits. add-from-sound v room l s d ld i bs least most fresh paged few fits .reply,
+)

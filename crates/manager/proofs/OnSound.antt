@@ -1,8 +1,9 @@
 -- The calls on the catalogue of a sound layout: past the conditions of the buffers. Assumes nothing.
-use mathlib.Core.Bool.{false, not, true}
+use mathlib.Core.Bool.{Bool, false, not, true}
 use mathlib.Core.List.{List, [], _∷_}
 use mathlib.Core.Path.{_∙_, _≡_, ap, ap₂, refl}
 use Prim.Native.Nat.{_*_, ℕ}
+use native.Mathlib.Omega.{arith}
 use lib.ListN.{length}
 use borrow.Author.Tests.{eq-eqb}
 use Rattle.catalogue.proofs.ReadBackLayout.{catalogue-back}
@@ -15,7 +16,7 @@ use Rattle.layout.specs.Adding.{allocate}
 use Rattle.layout.specs.Layout.{Layout, findFile, freeBlocks}
 use Rattle.layout.specs.Lists.{Each, done, more}
 use Rattle.layout.specs.Sound.{Sound}
-use Rattle.manager.specs.Conditions.{Condition, Judgement, addChecks, allowed, answered, condition}
+use Rattle.manager.specs.Conditions.{Condition, Judgement, Outcome, addChecks, allowed, answered, condition}
 use Rattle.manager.specs.Conditions.{fileChecks, firstRefusal, onLayout, readChecks, refusal, replyUnless}
 use Rattle.manager.specs.Conditions.{unlessRefused, wrongCatalogue, wrongDisk}
 use Rattle.manager.specs.Disk.{pageCount}
@@ -31,6 +32,26 @@ unfolding firstRefusal
 none-applies done = refl
 none-applies (more {a = c} {l = cs} p e) =
     ap (λ t. elim t as (λ _. Judgement) [ true ↦ refusal (c .number) | false ↦ firstRefusal cs ]) p ∙ none-applies e
+
+-- and only then
+pub allowed-none : (cs : List Condition) → firstRefusal cs ≡ allowed
+    → Each (λ (c : Condition). c .applies ≡ false) cs
+unfolding firstRefusal
+allowed-none [] e = done
+allowed-none (c ∷ cs) e = go (c .applies) refl e (λ q. allowed-none cs q)
+  where
+    go : (t : Bool) → c .applies ≡ t
+        → elim t as (λ _. Judgement) [ true ↦ refusal (c .number) | false ↦ firstRefusal cs ] ≡ allowed
+        → (firstRefusal cs ≡ allowed → Each (λ (c : Condition). c .applies ≡ false) cs)
+        → Each (λ (c : Condition). c .applies ≡ false) (c ∷ cs)
+    go true p q k = absurd (let z : _≡_ {A = ℕ} 0 1 = cc in omega arith)
+    go false p q k = more {a = c} p (k q)
+
+-- an answer shows that the call was allowed
+pub answered-allowed : (j : Judgement) (cat d o : List ℕ) (act : Outcome) (k : ℕ)
+    → unlessRefused j cat d o act .reply ≡ answered k → j ≡ allowed
+answered-allowed allowed cat d o act k e = refl
+answered-allowed (refusal n) cat d o act k e = absurd (let z : _≡_ {A = ℕ} 0 1 = cc in omega arith)
 
 module _ (v : Version) (room : Roomy v) (l : Layout) (s : Sound (v .heights) l) where
   read-back : readCatalogue v (encode v l) ≡ sound l

@@ -7,3 +7,4 @@ pub mod Outcomes
 pub mod Table
 pub mod Book
 pub mod WholeList
+pub mod Printing

@@ -22,8 +22,9 @@ use Rattle.layout.specs.Layout.{Layout, blocksOf, filePieces, freeBlocks, hasFi
 use Rattle.layout.specs.Lists.{Each, done, more, sumOf}
 use Rattle.layout.specs.Sound.{Sound, greatestId}
 use Rattle.manager.proofs.Contents.{content-pages, cut-paged, paged-length}
+use Rattle.manager.proofs.Judging.{allowed-none, answered-allowed, none-applies}
 use Rattle.manager.proofs.Lines.{write-line}
-use Rattle.manager.proofs.OnSound.{add-on-sound, allowed-none, answered-allowed, none-applies}
+use Rattle.manager.proofs.OnSound.{add-on-sound}
 use Rattle.manager.proofs.Writing.{Paged, lines-same, write-back, write-length, write-other}
 use Rattle.manager.specs.Book.{contentPages, writeLine}
 use Rattle.manager.specs.Conditions.{Outcome, addChecks, allowed, answered, condition, firstRefusal}

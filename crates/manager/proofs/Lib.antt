@@ -3,6 +3,8 @@ pub mod Blocks
 pub mod Writing
 pub mod Lines
 pub mod Contents
+pub mod Judging
+pub mod OnRead
 pub mod OnSound
 pub mod AddFromSound
 pub mod RemoveFromSound

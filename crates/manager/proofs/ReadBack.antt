@@ -21,8 +21,9 @@ use Rattle.layout.specs.Sound.{Sound, greatestId}
 use Rattle.manager.proofs.AddFromSound.{add-from-sound}
 use Rattle.manager.proofs.Blocks.{block-length}
 use Rattle.manager.proofs.Contents.{cut-paged, join-length, paged-length, pages-joined}
+use Rattle.manager.proofs.Judging.{none-applies}
 use Rattle.manager.proofs.Lines.{pages-length}
-use Rattle.manager.proofs.OnSound.{none-applies, read-on-sound}
+use Rattle.manager.proofs.OnSound.{read-on-sound}
 use Rattle.manager.proofs.Writing.{Paged}
 use Rattle.manager.specs.Conditions.{Outcome, allowed, answered, beyond, condition, firstRefusal, outcome}
 use Rattle.manager.specs.Conditions.{readChecks, unlessRefused, unpaged}

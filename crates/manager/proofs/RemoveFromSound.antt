@@ -22,8 +22,9 @@ use Rattle.layout.specs.Lists.{Each, done, more}
 use Rattle.layout.specs.Removing.{Copy, copiesOf, layoutAfter, release, removal}
 use Rattle.layout.specs.Sound.{Sound}
 use Rattle.manager.proofs.Blocks.{copies-block, copies-length}
+use Rattle.manager.proofs.Judging.{none-applies}
 use Rattle.manager.proofs.Lines.{find-strike, moved-lines}
-use Rattle.manager.proofs.OnSound.{none-applies, remove-on-sound}
+use Rattle.manager.proofs.OnSound.{remove-on-sound}
 use Rattle.manager.specs.Book.{strikeLine}
 use Rattle.manager.specs.Conditions.{Outcome, allowed, answered, condition, fileChecks, firstRefusal}
 use Rattle.manager.specs.Conditions.{unlessRefused}

@@ -26,7 +26,8 @@ use Rattle.layout.specs.Removing.{copiesOf, removal}
 use Rattle.layout.specs.Sound.{Sound}
 use Rattle.manager.proofs.Agreement.{call-agrees}
 use Rattle.manager.proofs.Contents.{length-paged}
-use Rattle.manager.proofs.OnSound.{none-applies, remove-on-catalogue}
+use Rattle.manager.proofs.Judging.{none-applies}
+use Rattle.manager.proofs.OnSound.{remove-on-catalogue}
 use Rattle.manager.proofs.Standing.{Standing, standing-afterwards}
 use Rattle.manager.proofs.Steps.{StepClaim, answered-same, claim-agrees, refused-answered}
 use Rattle.manager.specs.Book.{Book, freshBook, inBook}

@@ -1,0 +1,147 @@
+-- The calls by what is read from the catalogue: a layout, none, or a buffer of another length. Assumes nothing.
+use mathlib.Core.Bool.{false, not, true}
+use mathlib.Core.List.{List, [], _∷_}
+use mathlib.Core.Path.{_≡_, ap, ap₂}
+use Prim.Native.Nat.{ℕ}
+use lib.ListN.{length}
+use borrow.Author.Tests.{eq-eqb, ne-eqb}
+use Rattle.catalogue.specs.Reading.{readCatalogue, sound, unsound}
+use Rattle.catalogue.specs.Version.{Version}
+use Rattle.layout.proofs.Swaps.{right}
+use Rattle.layout.specs.Adding.{allocate}
+use Rattle.layout.specs.Layout.{Layout, findFile, freeBlocks}
+use Rattle.manager.specs.Conditions.{Condition, addChecks, answered, condition, fileChecks, firstRefusal}
+use Rattle.manager.specs.Conditions.{onLayout, outcome, readChecks, refusal, refused, replyUnless}
+use Rattle.manager.specs.Conditions.{unlessRefused, wrongCatalogue, wrongDisk}
+use Rattle.manager.specs.Disk.{pageCount}
+use Rattle.manager.specs.Outcomes.{addOutcome, addPieces, breaksFound, breaksReply, checkReply, doAdd}
+use Rattle.manager.specs.Outcomes.{doBreaks, doCheck, doFree, doRead, doRemove, freeReply, readFound}
+use Rattle.manager.specs.Outcomes.{readOutcome, removeFound, removeOutcome}
+
+-- ---- a catalogue from which the layout l is read
+
+module _ (v : Version) (cat : List ℕ) (l : Layout) (lc : length cat ≡ v .bytes)
+    (rd : readCatalogue v cat ≡ sound l) where
+  right-length : wrongCatalogue v cat ≡ false
+  right-length = ap not (eq-eqb (length cat) (v .bytes) lc)
+
+  -- conditions 1 and 3 do not apply
+  past-catalogue : (k : Layout → List Condition)
+      → firstRefusal (condition 1 (wrongCatalogue v cat) ∷ onLayout (readCatalogue v cat) k) ≡ firstRefusal (k l)
+  unfolding firstRefusal
+  past-catalogue k = rw (right-length, rd)
+
+  pub breaks-on-read : (i : ℕ)
+      → breaksReply v i cat ≡ replyUnless (firstRefusal (fileChecks i l)) (breaksFound (findFile i (l .files)))
+  unfolding breaksReply
+  breaks-on-read i = ap₂ (λ j x. replyUnless j (doBreaks i x)) (past-catalogue (fileChecks i)) rd
+
+  pub free-on-read : freeReply v cat ≡ answered (freeBlocks l)
+  unfolding freeReply firstRefusal
+  free-on-read = ap₂ (λ j x. replyUnless j (doFree x)) (past-catalogue (λ l. [])) rd
+
+  -- whatever the disk
+  pub add-on-read : (i : ℕ) (bs d : List ℕ)
+      → addOutcome v i bs cat d
+      ≡ unlessRefused (firstRefusal (condition 4 (wrongDisk l d) ∷ addChecks i bs l)) cat d []
+      (addPieces v i bs cat d l (allocate 0 (v .heights) (pageCount bs) (l .free)))
+  unfolding addOutcome
+  add-on-read i bs d =
+      ap₂ (λ j x. unlessRefused j cat d [] (doAdd v i bs cat d x))
+      (past-catalogue (λ m. condition 4 (wrongDisk m d) ∷ addChecks i bs m)) rd
+
+  pub remove-on-read : (i : ℕ) (d : List ℕ)
+      → removeOutcome v i cat d
+      ≡ unlessRefused (firstRefusal (condition 4 (wrongDisk l d) ∷ fileChecks i l)) cat d []
+      (removeFound v cat d l (findFile i (l .files)))
+  unfolding removeOutcome
+  remove-on-read i d =
+      ap₂ (λ j x. unlessRefused j cat d [] (doRemove v i cat d x))
+      (past-catalogue (λ m. condition 4 (wrongDisk m d) ∷ fileChecks i m)) rd
+
+  pub read-on-read : (i p : ℕ) (o d : List ℕ)
+      → readOutcome v i p o cat d
+      ≡ unlessRefused (firstRefusal (condition 4 (wrongDisk l d) ∷ readChecks i p o l)) cat d o
+      (readFound p o cat d (findFile i (l .files)))
+  unfolding readOutcome
+  read-on-read i p o d =
+      ap₂ (λ j x. unlessRefused j cat d o (doRead i p o cat d x))
+      (past-catalogue (λ m. condition 4 (wrongDisk m d) ∷ readChecks i p o m)) rd
+
+  pub check-on-read : (d : List ℕ)
+      → checkReply v cat d ≡ replyUnless (firstRefusal (condition 4 (wrongDisk l d) ∷ [])) (answered (l .blocks))
+  unfolding checkReply
+  check-on-read d =
+      ap₂ (λ j x. replyUnless j (doCheck x)) (past-catalogue (λ m. condition 4 (wrongDisk m d) ∷ [])) rd
+
+-- ---- a catalogue from which no layout is read
+
+module _ (v : Version) (cat : List ℕ) (lc : length cat ≡ v .bytes) (rd : readCatalogue v cat ≡ unsound) where
+  not-sound : (k : Layout → List Condition)
+      → firstRefusal (condition 1 (wrongCatalogue v cat) ∷ onLayout (readCatalogue v cat) k) ≡ refusal 3
+  unfolding firstRefusal
+  not-sound k =
+      let right : wrongCatalogue v cat ≡ false = ap not (eq-eqb (length cat) (v .bytes) lc) in
+      rw (right, rd)
+
+  pub add-unsound : (i : ℕ) (bs d : List ℕ) → addOutcome v i bs cat d ≡ outcome (refused 3) cat d []
+  unfolding addOutcome
+  add-unsound i bs d =
+      ap (λ j. unlessRefused j cat d [] (doAdd v i bs cat d (readCatalogue v cat)))
+      (not-sound (λ m. condition 4 (wrongDisk m d) ∷ addChecks i bs m))
+
+  pub remove-unsound : (i : ℕ) (d : List ℕ) → removeOutcome v i cat d ≡ outcome (refused 3) cat d []
+  unfolding removeOutcome
+  remove-unsound i d =
+      ap (λ j. unlessRefused j cat d [] (doRemove v i cat d (readCatalogue v cat)))
+      (not-sound (λ m. condition 4 (wrongDisk m d) ∷ fileChecks i m))
+
+  pub read-unsound : (i p : ℕ) (o d : List ℕ) → readOutcome v i p o cat d ≡ outcome (refused 3) cat d o
+  unfolding readOutcome
+  read-unsound i p o d =
+      ap (λ j. unlessRefused j cat d o (doRead i p o cat d (readCatalogue v cat)))
+      (not-sound (λ m. condition 4 (wrongDisk m d) ∷ readChecks i p o m))
+
+  pub breaks-unsound : (i : ℕ) → breaksReply v i cat ≡ refused 3
+  unfolding breaksReply
+  breaks-unsound i = ap (λ j. replyUnless j (doBreaks i (readCatalogue v cat))) (not-sound (fileChecks i))
+
+  pub free-unsound : freeReply v cat ≡ refused 3
+  unfolding freeReply
+  free-unsound = ap (λ j. replyUnless j (doFree (readCatalogue v cat))) (not-sound (λ l. []))
+
+  pub check-unsound : (d : List ℕ) → checkReply v cat d ≡ refused 3
+  unfolding checkReply
+  check-unsound d =
+      ap (λ j. replyUnless j (doCheck (readCatalogue v cat))) (not-sound (λ m. condition 4 (wrongDisk m d) ∷ []))
+
+-- ---- a catalogue buffer of another length
+
+module _ (v : Version) (cat : List ℕ) (lc : length cat ≡ v .bytes → ⊥) where
+  wrong-length : (cs : List Condition) → firstRefusal (condition 1 (wrongCatalogue v cat) ∷ cs) ≡ refusal 1
+  unfolding firstRefusal
+  wrong-length cs = let wrong : wrongCatalogue v cat ≡ true = ap not (ne-eqb (length cat) (v .bytes) lc) in rw wrong
+
+  pub add-wrong : (i : ℕ) (bs d : List ℕ) → addOutcome v i bs cat d ≡ outcome (refused 1) cat d []
+  unfolding addOutcome
+  add-wrong i bs d = ap (λ j. unlessRefused j cat d [] (doAdd v i bs cat d (readCatalogue v cat))) (wrong-length _)
+
+  pub remove-wrong : (i : ℕ) (d : List ℕ) → removeOutcome v i cat d ≡ outcome (refused 1) cat d []
+  unfolding removeOutcome
+  remove-wrong i d = ap (λ j. unlessRefused j cat d [] (doRemove v i cat d (readCatalogue v cat))) (wrong-length _)
+
+  pub read-wrong : (i p : ℕ) (o d : List ℕ) → readOutcome v i p o cat d ≡ outcome (refused 1) cat d o
+  unfolding readOutcome
+  read-wrong i p o d = ap (λ j. unlessRefused j cat d o (doRead i p o cat d (readCatalogue v cat))) (wrong-length _)
+
+  pub breaks-wrong : (i : ℕ) → breaksReply v i cat ≡ refused 1
+  unfolding breaksReply
+  breaks-wrong i = ap (λ j. replyUnless j (doBreaks i (readCatalogue v cat))) (wrong-length _)
+
+  pub free-wrong : freeReply v cat ≡ refused 1
+  unfolding freeReply
+  free-wrong = ap (λ j. replyUnless j (doFree (readCatalogue v cat))) (wrong-length _)
+
+  pub check-wrong : (d : List ℕ) → checkReply v cat d ≡ refused 1
+  unfolding checkReply
+  check-wrong d = ap (λ j. replyUnless j (doCheck (readCatalogue v cat))) (wrong-length _)

@@ -30,7 +30,8 @@ pub record Draws (n : ℕ) (t : Taken) (r : Drawn) : Type 0 where
   pub less : r .found ≡ true → r .rest .count + 1 ≡ n
 
 unfoldable pub pairOf : Pair → MergePair
-pairOf p = elim (p .found) as (λ _. MergePair) [ true ↦ pair (p .lower) (p .upper) (freeOf (p .others)) | false ↦ fewer ]
+pairOf p =
+    elim (p .found) as (λ _. MergePair) [ true ↦ pair (p .lower) (p .upper) (freeOf (p .others)) | false ↦ fewer ]
 
 -- r is the pair that the definition takes from n pieces
 pub record Pairs (n : ℕ) (t : MergePair) (r : Pair) : Type 0 where
@@ -42,4 +43,5 @@ pub record Pairs (n : ℕ) (t : MergePair) (r : Pair) : Type 0 where
 unfoldable pub lowestPair : ℕ → ℕ → List Section → MergePair
 lowestPair zero h free = fewer
 lowestPair (suc k) h free =
-    elim (mergePair h free) as (λ _. MergePair) [ pair l u others ↦ pair l u others | fewer ↦ lowestPair k (suc h) free ]
+    elim (mergePair h free) as (λ _. MergePair)
+    [ pair l u others ↦ pair l u others | fewer ↦ lowestPair k (suc h) free ]

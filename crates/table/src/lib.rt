@@ -4,6 +4,24 @@
 // free pieces by rising first block, `Entry` for a file with its pieces in page order, `Table` for a layout.
 use section::Section;
 
+mod allocating;
+mod files;
+mod merges;
+mod moves;
+mod pairs;
+mod pieces;
+mod release;
+mod taking;
+
+pub use allocating::allocate;
+pub use files::files_cut;
+pub use files::files_put;
+pub use files::with_file;
+pub use merges::free_moved;
+pub use moves::files_moved;
+pub use release::free_with;
+pub use taking::take_piece;
+
 // The free pieces by rising first block. Between a release and its merges there are more of them than a sound layout has.
 pub struct Free {
     pub count: usize,
@@ -38,4 +56,12 @@ pub struct Pair {
     pub lower: Section,
     pub upper: Section,
     pub others: Free,
+}
+
+// The pieces of a new file in page order and the free pieces that are left, if there were enough.
+pub struct Laid {
+    pub ok: bool,
+    pub count: usize,
+    pub items: [Section; 13],
+    pub free: Free,
 }

@@ -1,0 +1,46 @@
+-- A table whose files and free pieces have moved stands for the layout after the merge. Assumes nothing.
+use mathlib.Core.List.{List, map}
+use mathlib.Core.Path.{_∙_, _≡_, ap, ap₂}
+use Prim.Native.Nat.{ℕ}
+use lib.ListN.{take}
+use Rattle.layout.specs.Layout.{byFirst}
+use Rattle.layout.specs.Lists.{Each, insertBy, sortBy}
+use Rattle.layout.specs.Removing.{merge, movedFile}
+use Rattle.section.specs.Sections.{buddyOf, movedInto, parentOf}
+use Rattle.section.specs.declared.Section.{Section}
+use Rattle.table.proofs.FileLists.{files-after}
+use Rattle.table.proofs.MapFirst.{each-mapFirst}
+use Rattle.table.specs.Moves.{mapFirst, movedEntry}
+use Rattle.table.specs.Tables.{InPlaces, fileOf, filesOf, freeOf, layoutOf}
+use Rattle.table.specs.declared.Entry.{Entry}
+use Rattle.table.specs.declared.Pair.{Pair}
+use Rattle.table.specs.declared.Table.{Table}
+
+pub layout-merged : (t r : Table) (p : Pair) (b w : Section) → r .count ≡ t .count → r .blocks ≡ t .blocks
+    → b ≡ buddyOf (p .lower) → w ≡ parentOf (p .lower)
+    → r .files ≡ mapFirst (movedEntry b (p .upper)) (t .count) (t .files)
+    → freeOf (r .free) ≡ insertBy byFirst w (sortBy byFirst (map (movedInto b (p .upper)) (freeOf (p .others))))
+    → layoutOf r ≡ merge (p .lower) (p .upper) (freeOf (p .others)) (layoutOf t) .after
+unfolding layoutOf filesOf merge
+layout-merged t r p b w n c eb ew fe fr = λ j. record { blocks = c j; files = files j; free = free j }
+  where
+    files : map fileOf (take (r .count) (r .files))
+        ≡ map (movedFile (buddyOf (p .lower)) (p .upper)) (map fileOf (take (t .count) (t .files)))
+    files =
+        ap₂ (λ k z. map fileOf (take k z)) n fe
+        ∙ (files-after b (p .upper) (t .count) (t .files)
+        ∙ ap (λ (x : Section). map (movedFile x (p .upper)) (map fileOf (take (t .count) (t .files)))) eb)
+
+    free : freeOf (r .free)
+        ≡ insertBy byFirst (parentOf (p .lower))
+        (sortBy byFirst (map (movedInto (buddyOf (p .lower)) (p .upper)) (freeOf (p .others))))
+    free =
+        fr
+        ∙ ap₂
+        (λ (x y : Section). insertBy byFirst x (sortBy byFirst (map (movedInto y (p .upper)) (freeOf (p .others)))))
+        ew eb
+
+-- moving keeps the counts
+pub counts-kept : (b u : Section) (m : ℕ) {l : List Entry} → Each InPlaces l
+    → Each InPlaces (mapFirst (movedEntry b u) m l)
+counts-kept b u m e = each-mapFirst (movedEntry b u) {P = InPlaces} m (λ a p. p) e

@@ -1,0 +1,43 @@
+-- What a release and a merge of a table leave is whole, and a sound table has room for a release. Assumes nothing.
+use mathlib.Core.Path.{_≡_, subst, sym}
+use Prim.Native.Nat.{_<_, _≤_, ℕ}
+use native.Mathlib.Omega.{arith}
+use lib.Count.{ones-le}
+use lib.ListN.{length}
+use Rattle.layout.proofs.Finding.{found-find}
+use Rattle.layout.proofs.MergeKeeps.{Whole}
+use Rattle.layout.proofs.Ones.{at-most-one-ones}
+use Rattle.layout.proofs.Removed.{release-whole}
+use Rattle.layout.proofs.SoundSums.{SoundSums, free-size}
+use Rattle.layout.specs.Layout.{blockCount}
+use Rattle.table.proofs.ReadyPairs.{Fits}
+use Rattle.table.proofs.Released.{find-at}
+use Rattle.table.specs.Files.{entryAt, hasId}
+use Rattle.table.specs.Merges.{Merged, Released}
+use Rattle.table.specs.Places.{firstPlace}
+use Rattle.table.specs.Tables.{fileOf, filesOf, freeOf, layoutOf, piecePlaces}
+use Rattle.table.specs.declared.Pair.{Pair}
+use Rattle.table.specs.declared.Table.{Table}
+
+module _ (t : Table) (g : SoundSums 13 (layoutOf t)) where
+  -- a sound layout has at most a free piece for each height
+  pub few-free : length (freeOf (t .free)) ≡ t .free .count → t .free .count ≤ piecePlaces
+  unfolding layoutOf
+  few-free exact = omega (
+    arith,
+    at-most-one-ones (freeOf (t .free)) (g .thin),
+    ones-le 13 (blockCount (freeOf (t .free))) (omega (arith, free-size 13 (layoutOf t) g, g .top)),
+  )
+
+  pub table-released-whole : (i : ℕ) (r : Table) → t .count ≤ length (t .files) → i < t .count
+      → i ≡ firstPlace (hasId (entryAt t i .id)) (filesOf t) → Released t i r → Whole (t .blocks) (layoutOf r)
+  unfolding layoutOf
+  table-released-whole i r most lt at re =
+      let x =
+      found-find (entryAt t i .id) (filesOf t) (fileOf (entryAt t i)) (find-at t (entryAt t i .id) i most at lt) in
+      subst (Whole (t .blocks)) (sym (re .layout))
+      (release-whole 13 (entryAt t i .id) (layoutOf t) (fileOf (entryAt t i)) (x .0) g (x .1))
+
+pub table-merged-whole : (c : ℕ) (t : Table) (p : Pair) (r : Table)
+    → Fits c (layoutOf t) (p .lower) (p .upper) (freeOf (p .others)) → Merged t p r → Whole c (layoutOf r)
+table-merged-whole c t p r f m = subst (Whole c) (sym (m .layout)) (f .keeps .whole)

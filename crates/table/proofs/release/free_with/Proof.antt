@@ -1,0 +1,93 @@
+-- `table::free_with` meets its contract: the pieces from place j on are among the free ones. Assumes nothing.
+use mathlib.Core.Path.{_∙_, _≡_, ap, refl, sym}
+use Prim.Native.Nat.{_+_, _≤_}
+use native.Mathlib.Omega.{arith}
+use lib.ListN.{drop, length, take}
+use lib.Seq.{length-take-le}
+use borrow.Author.Needs.{needs}
+use Rattle.layout.specs.Removing.{insertAll}
+use Rattle.section.specs.Sections.{section}
+use Rattle.table.proofs.Arrays.{length-of-mapped}
+use Rattle.table.proofs.FreeLists.{all-more, all-none}
+use Rattle.table.specs.Tables.{freeOf}
+use Rattle.table.proofs.release.free_with.Statement.{statement}
+use Rattle.table.proofs.release.free_with.Tie as tie
+
+abbrev Inv-loop : tie.InvT-loop
+Inv-loop items all₀ j₀ all j =
+    (length items ≡ 13) × (j₀ ≤ 13) × (j ≤ j₀) × (all₀ .count + j₀ ≤ 26) × (all .count + j ≡ all₀ .count + j₀)
+    × (freeOf all ≡ insertAll (drop j (take j₀ items)) (freeOf all₀)) × (length (freeOf all) ≡ all .count)
+
+abbrev μ-loop : tie.MeasureT-loop
+μ-loop items all₀ j₀ all j = j
+
+loop-holds : tie.Need-loop-holds Inv-loop μ-loop
+unfolding freeOf
+loop-holds c =
+    let a = c .before .args in
+    let e : length (a .e .items) ≡ 13 = search (needs, length-of-mapped) in
+    let f : length (a .free .items) ≡ 26 = search (needs, length-of-mapped) in (
+      e,
+      omega arith,
+      omega arith,
+      omega arith,
+      refl,
+      all-none (a .e .items) (a .e .count) (a .e .count) (section 0 0) (omega arith) (freeOf (a .free))
+          (omega arith),
+      length-take-le (a .free .count) (a .free .items) (omega arith),
+    )
+
+sub-j : tie.Need-sub-j Inv-loop μ-loop
+sub-j c = search needs
+
+mul-s : tie.Need-mul-s Inv-loop μ-loop
+mul-s c = search needs
+
+array-copy-out-s : tie.Need-array-copy-out-s Inv-loop μ-loop
+array-copy-out-s c = search needs
+
+with-requires : tie.Need-with-requires Inv-loop μ-loop
+with-requires c κs = search needs
+
+loop-less : tie.Need-loop-less Inv-loop μ-loop
+loop-less c = search needs
+
+loop-again : tie.Need-loop-again Inv-loop μ-loop
+loop-again c =
+    let b = c .before .before .before in
+    let a = b .before .before .args in
+    let v = b .loop .inv in (
+      v .0,
+      v .1,
+      omega arith,
+      v .3,
+      omega arith,
+      c .with .ensures .list
+          ∙ all-more (a .e .items) (a .e .count) (b .loop .j) (section 0 0) (omega arith) (freeOf (a .free))
+          (freeOf (b .loop .all)) (omega arith) (omega arith) (v .5),
+      ap length (c .with .ensures .list) ∙ (c .with .ensures .exact ∙ sym (c .with .ensures .count)),
+    )
+
+returns : tie.Need-returns Inv-loop μ-loop
+returns c =
+    let a = c .before .before .before .args in
+    let v = c .before .loop .inv in
+    let e : c .before .loop .j ≡ 0 = omega arith in
+    let l : freeOf (c .before .loop .all) ≡ insertAll (take (a .e .count) (a .e .items)) (freeOf (a .free)) =
+    v .5 ∙ ap (λ k. insertAll (drop k (take (a .e .count) (a .e .items))) (freeOf (a .free))) e in
+    record { count = omega arith; list = l; exact = sym (ap length l) ∙ omega arith }
+
+pub free-with-spec : {M : Type 1} → statement M
+free-with-spec =
+    tie.close
+    (tie.spec
+    Inv-loop
+    μ-loop
+    loop-holds
+    sub-j
+    mul-s
+    array-copy-out-s
+    with-requires
+    loop-less
+    loop-again
+    returns)

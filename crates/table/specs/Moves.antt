@@ -1,0 +1,35 @@
+-- Moving the pieces of a file: those that count are moved, the places past them are kept. Definitions only.
+use mathlib.Core.List.{List, [], _∷_}
+use Prim.Native.Nat.{suc, zero, ℕ}
+use lib.ListN.{take}
+use Rattle.layout.specs.Lists.{Each}
+use Rattle.section.specs.Sections.{Addressable, movedInto}
+use Rattle.section.specs.declared.Section.{Section}
+use Rattle.table.specs.Tables.{InPlaces, piecesIn}
+use Rattle.table.specs.declared.Entry.{Entry}
+
+-- the first n items mapped, the others kept
+unfoldable pub mapFirst : {A : Type 0} → (A → A) → ℕ → List A → List A
+mapFirst g n [] = []
+mapFirst g zero (a ∷ l) = a ∷ l
+mapFirst g (suc n) (a ∷ l) = g a ∷ mapFirst g n l
+
+-- a file when all that lies inside b has moved to the same distance inside u
+abbrev pub movedEntry : Section → Section → Entry → Entry
+movedEntry b u e = record { id = e .id; count = e .count; items = mapFirst (movedInto b u) (e .count) (e .items) }
+
+-- what moving pieces from b to u asks for
+pub record CanMove (b u : Section) (l : List Section) : Type 0 where
+  pub from : Addressable b
+  pub to : Addressable u
+  pub pieces : Each Addressable l
+
+abbrev pub PiecesServed : Entry → Type 0
+PiecesServed e = Each Addressable (piecesIn e)
+
+-- what moving the first m files asks for
+pub record CanMoveFiles (b u : Section) (m : ℕ) (files : List Entry) : Type 0 where
+  pub from : Addressable b
+  pub to : Addressable u
+  pub each : Each InPlaces files
+  pub pieces : Each PiecesServed (take m files)

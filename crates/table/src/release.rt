@@ -1,0 +1,51 @@
+// Releasing: a file leaves the table, and its pieces are free.
+ghost use mathlib.Core.Path.{_≡_};
+ghost use Prim.Native.Nat.{ℕ, _+_, _<_, _≤_};
+ghost use Rattle.layout.specs.Removing.{insertAll};
+ghost use Rattle.table.specs.Places.{firstPlace};
+ghost use Rattle.table.specs.Tables.{InPlaces, Sized, filesOf, freeOf, freePlaces, piecePlaces, piecesIn};
+ghost use Rattle.table.specs.Free.{Lists};
+ghost use Rattle.table.specs.Files.{entryAt, hasId};
+ghost use Rattle.table.specs.Merges.{Released};
+use crate::Entry;
+use crate::Free;
+use crate::Table;
+use crate::files::files_cut;
+
+// The free pieces with those of a file.
+pub fn free_with(free: Free, e: Entry) -> Free
+    requires { ⌜ (InPlaces e) × (free .count + e .count ≤ freePlaces) ⌝ }
+    ensures { λ r. ⌜ Lists (free .count + e .count) (insertAll (piecesIn e) (freeOf free)) r ⌝ }
+{
+    let items = e.items;
+    let mut all = free;
+    let mut j = e.count;
+    while 0 < j {
+        j -= 1;
+        let s = items[j];
+        all = all.with(s);
+    }
+    all
+}
+
+impl Table {
+    // The table when the file at place `i`, the first of its id, is gone and its pieces are free.
+    pub fn release(self, i: usize) -> Table
+        requires { ⌜ Sized self ⌝ }
+        requires { ⌜ (i < self .count) × (self .free .count ≤ piecePlaces) ⌝ }
+        requires { ⌜ i ≡ firstPlace (hasId (entryAt self i .id)) (filesOf self) ⌝ }
+        ensures { λ r. ⌜ Released self i r ⌝ }
+    {
+        let files = self.files;
+        let e = files[i];
+        let old = self.free;
+        let free = free_with(old, e);
+        let left = files_cut(files, self.count, i);
+        Table {
+            blocks: self.blocks,
+            count: self.count - 1,
+            files: left,
+            free,
+        }
+    }
+}

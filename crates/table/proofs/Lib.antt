@@ -13,3 +13,4 @@ pub mod MergedTable
 pub mod NextPair
 pub mod ReadyPairs
 pub mod TableSteps
+pub mod OwnPlace

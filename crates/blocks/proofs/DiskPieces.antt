@@ -1,0 +1,141 @@
+-- The pieces of a file one after another: the one at hand, those left, and the blocks of both. Assumes nothing.
+use mathlib.Core.List.{List, [], _++_, _∷_, map}
+use mathlib.Core.Path.{_∙_, _≡_, ap, ap₂, refl, subst, sym}
+use Prim.Native.Nat.{_*_, _+_, _-_, _<_, _^_, _≤_, suc, zero, ℕ}
+use native.Mathlib.Numerals.{add-one}
+use native.Mathlib.Omega.{arith}
+use lib.ListN.{List·getD-append, drop, drop-of-length-le, getD, length, length-map, length-take, take}
+use lib.Seq.{drop-cons, getD-take, length-take-le}
+use Rattle.blocks.proofs.DiskStoring.{getD-append-past}
+use Rattle.blocks.specs.DiskCode.{EntryFits, HasBlock, HasRun, PieceFits}
+use Rattle.layout.proofs.Lists.{each-append, each-imp}
+use Rattle.layout.proofs.Occurs.{length-blocks}
+use Rattle.layout.specs.Layout.{blockCount, blockRun, blocksOf}
+use Rattle.layout.specs.Lists.{Each, done, more}
+use Rattle.section.specs.Limits.{blockSize, greatestDisk}
+use Rattle.section.specs.Sections.{endOf, lengthOf, section}
+use Rattle.section.specs.declared.Section.{Section}
+use Rattle.table.specs.Tables.{piecePlaces, piecesIn}
+use Rattle.table.specs.declared.Entry.{Entry}
+
+pub length-of-mapped : {X Y : Type 0} (f : X → Y) (l : List X) (n : ℕ) → length (map f l) ≡ n → length l ≡ n
+length-of-mapped f l n e = sym (length-map l f) ∙ e
+
+each-get : {A : Type 0} {P : A → Type 0} {l : List A} (i : ℕ) (d : A) → Each P l → i < length l → P (getD l i d)
+each-get i d done l = absurd (omega arith)
+each-get zero d (more p e) l = p
+each-get (suc i) d (more p e) l = each-get i d e (omega arith)
+
+-- the first m of an array, from place j on
+module _ {A : Type 0} (p : List A) (m j : ℕ) (hm : m ≤ length p) where
+  pub ahead : (d : A) → j < m → drop j (take m p) ≡ getD p j d ∷ drop (j + 1) (take m p)
+  ahead d h =
+      drop-cons (take m p) j d (omega (arith, length-take-le m p hm))
+      ∙ ap₂ (λ x k. x ∷ drop k (take m p)) (getD-take m p j d h) (sym (add-one j))
+
+  pub behind : m ≤ j → drop j (take m p) ≡ []
+  behind h = drop-of-length-le (take m p) {i = j} (omega (arith, length-take-le m p hm))
+
+-- a section with nothing in it, where a list has to have one
+abbrev pub noSection : Section
+noSection = section 0 0
+
+module _ (d : ℕ) (items : List Section) (m j : ℕ) (hm : m ≤ length items) (l : j < m) where
+  pub piece-fits : Each (PieceFits d) (take m items) → PieceFits d (getD items j noSection)
+  piece-fits e =
+      subst (PieceFits d) (getD-take m items j noSection l)
+      (each-get j noSection e (omega (arith, length-take-le m items hm)))
+
+module _ (items : List Section) (m j : ℕ) (hm : m ≤ length items) where
+  pub count-here : j < m → blockCount (drop j (take m items))
+      ≡ lengthOf (getD items j noSection) + blockCount (drop (j + 1) (take m items))
+  count-here l = ap blockCount (ahead items m j hm noSection l)
+
+  pub count-end : m ≤ j → blockCount (drop j (take m items)) ≡ 0
+  count-end l = ap blockCount (behind items m j hm l)
+
+-- the pieces on a smaller disk are on a greater one
+pub entry-wider : (d c : ℕ) (e : Entry) → d ≤ c → c ≤ blockSize * greatestDisk → EntryFits d e → EntryFits c e
+entry-wider d c e l m f = record {
+  count = f .count;
+  pieces = each-imp (λ s p. record { height = p .height; within = wider s (p .within) }) (f .pieces);
+  disk = m;
+}
+  where
+    wider : (s : Section) → blockSize * endOf s ≤ d → blockSize * endOf s ≤ c
+    wider s p = omega arith
+
+-- no more blocks than every piece could have
+pub count-most : (d : ℕ) {l : List Section} → d ≤ blockSize * greatestDisk → Each (PieceFits d) l
+    → blockCount l ≤ greatestDisk * length l
+count-most d m done = omega arith
+count-most d m (more p e) = omega (arith, p .within, count-most d m e)
+
+pub entry-most : (d : ℕ) (e : Entry) → EntryFits d e → blockCount (piecesIn e) ≤ greatestDisk * piecePlaces
+entry-most d e f = omega (
+  arith,
+  f .count,
+  count-most d (f .disk) (f .pieces),
+  length-take (e .count) (e .items),
+)
+
+-- ---- the block of a page
+
+pub length-blockRun : (n a : ℕ) → length (blockRun a n) ≡ n
+unfolding blockRun
+length-blockRun zero a = refl
+length-blockRun (suc n) a = ap suc (length-blockRun n (suc a))
+
+getD-run : (n a k : ℕ) → k < n → getD (blockRun a n) k 0 ≡ a + k
+unfolding blockRun
+getD-run zero a k l = absurd (omega arith)
+getD-run (suc n) a zero l = omega arith
+getD-run (suc n) a (suc k) l = getD-run n (suc a) k (omega arith) ∙ omega arith
+
+module _ (items : List Section) (m j : ℕ) (hm : m ≤ length items) where
+  blocks-here : j < m → blocksOf (drop j (take m items))
+      ≡ blockRun (getD items j noSection .first) (lengthOf (getD items j noSection))
+      ++ blocksOf (drop (j + 1) (take m items))
+  unfolding blocksOf
+  blocks-here l = ap blocksOf (ahead items m j hm noSection l)
+
+  -- the page is in the piece at hand
+  pub page-here : (k n : ℕ) → j < m → n ≡ lengthOf (getD items j noSection) → k < n
+      → getD items j noSection .first + k ≡ getD (blocksOf (drop j (take m items))) k 0
+  page-here k n l e h =
+      let s = getD items j noSection in
+      let h′ : k < lengthOf s = omega arith in
+      sym (ap (λ z. getD z k 0) (blocks-here l)
+      ∙ (List·getD-append (blockRun (s .first) (lengthOf s)) (blocksOf (drop (j + 1) (take m items))) 0 k
+      (omega (arith, length-blockRun (lengthOf s) (s .first)))
+      ∙ getD-run (lengthOf s) (s .first) k h′))
+
+  -- it is in a later one
+  pub page-later : (k n : ℕ) → j < m → n ≡ lengthOf (getD items j noSection) → n ≤ k
+      → getD (blocksOf (drop (j + 1) (take m items))) (k - n) 0 ≡ getD (blocksOf (drop j (take m items))) k 0
+  page-later k n l e h =
+      let s = getD items j noSection in
+      sym (ap (λ z. getD z k 0) (blocks-here l)
+      ∙ getD-append-past (blockRun (s .first) (lengthOf s)) (blocksOf (drop (j + 1) (take m items))) n k
+      (length-blockRun (lengthOf s) (s .first) ∙ sym e) h)
+
+  -- it is in none
+  pub page-none : (k : ℕ) → m ≤ j → 0 ≡ getD (blocksOf (drop j (take m items))) k 0
+  unfolding blocksOf
+  page-none k l = sym (ap (λ z. getD (blocksOf z) k 0) (behind items m j hm l))
+
+run-on-disk : (d n a : ℕ) → HasRun d a n → Each (HasBlock d) (blockRun a n)
+unfolding blockRun
+run-on-disk d zero a p = done
+run-on-disk d (suc n) a p = more {a = a} (omega arith) (run-on-disk d n (suc a) (omega arith))
+
+blocks-on-disk : (d : ℕ) {l : List Section} → Each (PieceFits d) l → Each (HasBlock d) (blocksOf l)
+unfolding blocksOf
+blocks-on-disk d done = done
+blocks-on-disk d (more {a = s} p e) =
+    each-append (run-on-disk d (2 ^ s .height .value) (s .first) (p .within)) (blocks-on-disk d e)
+
+-- the block of a page is on the disk
+pub page-on-disk : (d : ℕ) {l : List Section} (k : ℕ) → Each (PieceFits d) l → k < blockCount l
+    → HasBlock d (getD (blocksOf l) k 0)
+page-on-disk d {l} k e h = each-get {P = HasBlock d} k 0 (blocks-on-disk d e) (omega (arith, length-blocks l))

@@ -1,0 +1,2 @@
+-- Definitions only: what the functions ask for and promise.
+pub mod DiskCode

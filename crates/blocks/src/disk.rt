@@ -1,0 +1,165 @@
+// Blocks and pages: copies within the disk, pages written to the blocks of pieces, pages read from them.
+//
+// Every function works on the caller's bytes in place. Blocks and pages are moved byte by byte, in a loop over a fixed
+// number of bytes.
+ghost use mathlib.Core.Path.{_≡_};
+ghost use Prim.Native.Nat.{_*_, _≤_};
+ghost use lib.ListN.{length, take, drop, getD};
+ghost use Rattle.section.specs.Limits.{blockSize, greatestDisk};
+ghost use Rattle.layout.specs.Layout.{blockRun, blocksOf};
+ghost use Rattle.layout.specs.Removing.{copyRun, mergeCopies};
+ghost use Rattle.table.specs.Tables.{piecesIn};
+ghost use Rattle.manager.specs.Disk.{block, storeBlock, pagesOn, pageCount, cutPages, joinPages, writePages};
+ghost use Rattle.blocks.specs.DiskCode.{HasBlock, HasRun, MergeFits, EntryFits, WriteFits, ReadFits, Copied, Sums};
+use section::Section;
+use table::Entry;
+
+// Copies the bytes of block `from` to block `to`.
+pub fn copy_block(disk: &mut [u8], from: u32, to: u32)
+    requires { ⌜ HasBlock (length (now disk)) from ⌝ }
+    requires { ⌜ HasBlock (length (now disk)) to ⌝ }
+    ensures { λ _. ⌜ now (disk .exit) ≡ storeBlock (now (disk .entry)) to (block (now (disk .entry)) from) ⌝ }
+{
+    let source = Section::BLOCK_SIZE * (from as usize);
+    let target = Section::BLOCK_SIZE * (to as usize);
+    let mut i: usize = 0;
+    while i < Section::BLOCK_SIZE {
+        disk[target + i] = disk[source + i];
+        i += 1;
+    }
+}
+
+// Copies the `n` blocks from `from` on to the places from `to` on, in order, and answers how many copies it made.
+pub fn copy_run(disk: &mut [u8], from: u32, to: u32, n: u32) -> u32
+    requires { ⌜ HasRun (length (now disk)) from n ⌝ }
+    requires { ⌜ HasRun (length (now disk)) to n ⌝ }
+    requires { ⌜ length (now disk) ≤ blockSize * greatestDisk ⌝ }
+    ensures copies { λ r. ⌜ Copied (now (disk .entry)) (now (disk .exit)) (copyRun from to n) n r ⌝ }
+    ensures all { λ r. ⌜ r ≡ n ⌝ }
+{
+    let mut made: u32 = 0;
+    while made < n {
+        copy_block(disk, from + made, to + made);
+        made += 1;
+    }
+    made
+}
+
+// Makes the copies of a merge, the blocks of the lower section's buddy to the upper one, and answers how many.
+pub fn copy_merge(disk: &mut [u8], lower: Section, upper: Section) -> u32
+    requires { ⌜ MergeFits (length (now disk)) lower upper ⌝ }
+    ensures { λ r. ⌜ Copied (now (disk .entry)) (now (disk .exit)) (mergeCopies lower upper) greatestDisk r ⌝ }
+{
+    let buddy = lower.buddy();
+    if buddy.first == upper.first {
+        return 0;
+    }
+    let h = lower.height;
+    let n = h.length();
+    copy_run(disk, buddy.first, upper.first, n)
+}
+
+// The number of blocks of a file's pieces.
+pub fn sum_of_lengths(e: Entry) -> u32
+    requires { ⌜ EntryFits (blockSize * greatestDisk) e ⌝ }
+    ensures { λ r. ⌜ Sums e r ⌝ }
+{
+    let count = e.count;
+    let items = e.items;
+    let mut sum: u32 = 0;
+    let mut j: usize = 0;
+    while j < count {
+        let s = items[j];
+        let h = s.height;
+        sum += h.length();
+        j += 1;
+    }
+    sum
+}
+
+// Stores block `from` of `source` in block `to` of `target`.
+fn store_block(target: &mut [u8], to: usize, source: &[u8], from: usize)
+    requires { ⌜ HasBlock (length (now target)) to ⌝ }
+    requires { ⌜ HasBlock (length (now source)) from ⌝ }
+    ensures { λ _. ⌜ now (target .exit) ≡ storeBlock (now (target .entry)) to (block (now (source .entry)) from) ⌝ }
+{
+    let first = Section::BLOCK_SIZE * from;
+    let place = Section::BLOCK_SIZE * to;
+    let mut i: usize = 0;
+    while i < Section::BLOCK_SIZE {
+        target[place + i] = source[first + i];
+        i += 1;
+    }
+}
+
+// Writes the `n` pages of the content from `page` on to the blocks from `to` on.
+fn write_run(disk: &mut [u8], to: usize, content: &[u8], page: usize, n: usize)
+    requires { ⌜ HasRun (length (now disk)) to n ⌝ }
+    requires { ⌜ HasRun (length (now content)) page n ⌝ }
+    ensures { λ _. ⌜ now (disk .exit)
+        ≡ writePages (now (disk .entry)) (blockRun to n) (cutPages n (drop (blockSize * page) (now (content .entry)))) ⌝ }
+{
+    let mut i: usize = 0;
+    while i < n {
+        store_block(disk, to + i, content, page + i);
+        i += 1;
+    }
+}
+
+// Writes the pages of the content to the blocks of a file's pieces.
+pub fn write_pages(disk: &mut [u8], content: &[u8], e: Entry)
+    requires { ⌜ WriteFits (length (now disk)) (length (now content)) e ⌝ }
+    ensures { λ _. ⌜ now (disk .exit)
+        ≡ writePages (now (disk .entry)) (blocksOf (piecesIn e))
+        (cutPages (pageCount (now (content .entry))) (now (content .entry))) ⌝ }
+{
+    let count = e.count;
+    let items = e.items;
+    let mut page: usize = 0;
+    let mut j: usize = 0;
+    while j < count {
+        let s = items[j];
+        let h = s.height;
+        let n = h.length() as usize;
+        write_run(disk, s.first as usize, content, page, n);
+        page += n;
+        j += 1;
+    }
+}
+
+// The block that holds a page of a file, and 0 past its last page.
+pub fn block_of_page(e: Entry, page: usize) -> u32
+    requires { ⌜ EntryFits (blockSize * greatestDisk) e ⌝ }
+    ensures { λ r. ⌜ r ≡ getD (blocksOf (piecesIn e)) page 0 ⌝ }
+{
+    let count = e.count;
+    let items = e.items;
+    let mut rest = page;
+    let mut j: usize = 0;
+    while j < count {
+        let s = items[j];
+        let h = s.height;
+        let n = h.length();
+        if rest < n as usize {
+            return s.first + rest as u32;
+        }
+        rest -= n as usize;
+        j += 1;
+    }
+    0
+}
+
+// Fills the output with the file's pages from `first` on.
+pub fn read_pages(disk: &[u8], e: Entry, first: usize, out: &mut [u8])
+    requires { ⌜ ReadFits (length (now disk)) (length (now out)) first e ⌝ }
+    ensures { λ _. ⌜ now (out .exit)
+        ≡ joinPages (take (pageCount (now (out .entry))) (drop first (pagesOn (now (disk .entry)) (piecesIn e)))) ⌝ }
+{
+    let count = out.len() / Section::BLOCK_SIZE;
+    let mut i: usize = 0;
+    while i < count {
+        let b = block_of_page(e, first + i);
+        store_block(out, i, disk, b as usize);
+        i += 1;
+    }
+}

@@ -1,0 +1,2 @@
+-- The laws of the calls' code, by subject.
+pub mod Settling

@@ -1,0 +1,189 @@
+-- Merging to the end in code: what holds after each merge. Assumes nothing.
+use mathlib.Core.Bool.{false, true}
+use mathlib.Core.List.{List, [], _++_, _∷_, append-assoc, append-nil}
+use mathlib.Core.Path.{_∙_, _≡_, ap, refl, subst, sym}
+use Prim.Native.Nat.{_*_, _+_, _^_, _≤_, suc, zero, ℕ}
+use native.Mathlib.Nat.{mul-le-mul-left, mul-suc}
+use native.Mathlib.Omega.{arith}
+use lib.ListN.{length, length-append}
+use Rattle.blocks.specs.DiskCode.{Copied, MergeFits}
+use Rattle.calls.specs.Settling.{CanSettle, Settles, mergesOf}
+use Rattle.layout.proofs.Allocating.{height-lt}
+use Rattle.layout.proofs.LoopTurns.{layout-after-append}
+use Rattle.layout.proofs.MergeKeeps.{Whole}
+use Rattle.layout.proofs.Swaps.{same}
+use Rattle.layout.specs.Layout.{Layout}
+use Rattle.layout.specs.Lists.{none}
+use Rattle.layout.specs.Removing.{Copy, Merge, copiesOf, due, layoutAfter, merge, mergeAll, mergeCopies, nextMerge}
+use Rattle.layout.specs.Removing.{settled}
+use Rattle.manager.specs.Disk.{block, runCopies, storeBlock}
+use Rattle.section.proofs.Buddies.{upper}
+use Rattle.section.specs.Limits.{blockSize, greatestDisk}
+use Rattle.table.proofs.NextPair.{merge-due, merge-settled}
+use Rattle.table.proofs.ReadyPairs.{Fits, due-fits, merge-ready}
+use Rattle.table.proofs.TableSteps.{table-merged-whole}
+use Rattle.table.specs.Free.{Pairs, lowestPair}
+use Rattle.table.specs.Merges.{Merged, Ready}
+use Rattle.table.specs.Tables.{Sized, freeOf, freePlaces, layoutOf}
+use Rattle.table.specs.declared.Pair.{Pair}
+use Rattle.table.specs.declared.Table.{Table}
+
+copies-append : (a b : List Merge) → copiesOf (a ++ b) ≡ copiesOf a ++ copiesOf b
+unfolding copiesOf
+copies-append [] b = refl
+copies-append (m ∷ a) b =
+    ap (λ z. m .copies ++ z) (copies-append a b) ∙ sym (append-assoc (m .copies) (copiesOf a) (copiesOf b))
+
+run-append : (a b : List Copy) (d : List ℕ) → runCopies d (a ++ b) ≡ runCopies (runCopies d a) b
+unfolding runCopies
+run-append [] b d = refl
+run-append (c ∷ a) b d = run-append a b (storeBlock d (c .target) (block d (c .source)))
+
+copies-one : (m : Merge) → copiesOf (m ∷ []) ≡ m .copies
+unfolding copiesOf
+copies-one m = append-nil (m .copies)
+
+last-one : (w : Layout) (m : Merge) → layoutAfter w (m ∷ []) ≡ m .after
+unfolding layoutAfter
+last-one w m = refl
+
+-- one more merge
+merge-more : (n : ℕ) (w : Layout) (m : Merge) → nextMerge 13 0 w ≡ due m
+    → mergeAll (suc n) 13 w ≡ m ∷ mergeAll n 13 (m .after)
+unfolding mergeAll
+merge-more n w m e = ap (λ x. elim x as (λ _. List Merge) [ due m ↦ m ∷ mergeAll n 13 (m .after) | settled ↦ [] ]) e
+
+-- no more
+merge-none : (n : ℕ) (w : Layout) → nextMerge 13 0 w ≡ settled → mergeAll n 13 w ≡ []
+unfolding mergeAll
+merge-none zero w e = refl
+merge-none (suc n) w e =
+    ap (λ x. elim x as (λ _. List Merge) [ due m ↦ m ∷ mergeAll n 13 (m .after) | settled ↦ [] ]) e
+
+-- t and the disk d after some of the merges of t₀, with `copied` blocks copied
+pub record Settling (t₀ : Table) (d₀ : List ℕ) (t : Table) (d : List ℕ) (copied : ℕ) : Type 0 where
+  pub made : List Merge
+  pub all : made ++ mergesOf t ≡ mergesOf t₀
+  pub layout : layoutOf t ≡ layoutAfter (layoutOf t₀) made
+  pub disk : d ≡ runCopies d₀ (copiesOf made)
+  pub count : copied ≡ length (copiesOf made)
+  pub whole : Whole (t .blocks) (layoutOf t)
+  pub sized : Sized t
+  pub small : t .blocks ≤ greatestDisk
+  pub long : length d ≡ blockSize * t .blocks
+  pub blocks : t .blocks ≡ t₀ .blocks
+  pub exact : length (freeOf (t .free)) ≡ t .free .count
+  pub bounded : copied + greatestDisk * t .free .count ≤ greatestDisk * freePlaces
+
+pub settling-start : (t : Table) (d : List ℕ) → CanSettle t (length d) → Settling t d t d 0
+unfolding layoutAfter copiesOf runCopies
+settling-start t d s = record {
+  made = [];
+  all = refl;
+  layout = refl;
+  disk = refl;
+  count = refl;
+  whole = s .whole;
+  sized = s .sized;
+  small = s .small;
+  long = s .disk;
+  blocks = refl;
+  exact = s .exact;
+  bounded = omega (arith, mul-le-mul-left greatestDisk (s .sized .free));
+}
+
+module _ (t₀ : Table) (d₀ : List ℕ) (t : Table) (d : List ℕ) (copied : ℕ) (g : Settling t₀ d₀ t d copied) (p : Pair)
+    (ps : Pairs (t .free .count) (lowestPair 13 0 (freeOf (t .free))) p) (f : p .found ≡ true) where
+  fits : Fits (t .blocks) (layoutOf t) (p .lower) (p .upper) (freeOf (p .others))
+  fits = due-fits (t .blocks) (g .small) t p (g .whole) (g .sized) ps f
+
+  -- what the merge asks for
+  pub settling-ready : Ready t p
+  settling-ready = merge-ready (t .blocks) (g .small) t p (g .whole) (g .sized) ps f
+
+  pub settling-copies : MergeFits (length d) (p .lower) (p .upper)
+  settling-copies =
+      let same = ap (λ n. 2 ^ n) (fits .same) in
+      record {
+        height = omega (arith, height-lt (t .blocks) 13 (omega (arith, g .small)) (p .lower) (fits .lower));
+        buddy = omega (arith, g .long, mul-le-mul-left blockSize (fits .buddy .within));
+        upper = omega (arith, g .long, mul-le-mul-left blockSize (fits .upper .within), same);
+        disk = omega (arith, g .long, mul-le-mul-left blockSize (g .small));
+      }
+
+  -- and what holds after it
+  pub settling-more : (d′ : List ℕ) (k : ℕ) (r : Table)
+      → Copied d d′ (mergeCopies (p .lower) (p .upper)) greatestDisk k → Merged t p r
+      → Settling t₀ d₀ r d′ (copied + k)
+  unfolding merge
+  settling-more d′ k r c m =
+      record {
+        made = g .made ++ (now ∷ []);
+        all = append-assoc (g .made) (now ∷ []) (mergesOf r) ∙ (ap (λ z. g .made ++ z) rest ∙ g .all);
+        layout =
+            m .layout
+            ∙ sym (layout-after-append (layoutOf t₀) (g .made) (now ∷ [])
+            ∙ (ap (λ w. layoutAfter w (now ∷ [])) (sym (g .layout)) ∙ last));
+        disk =
+            c .disk
+            ∙ (ap (λ z. runCopies z (mergeCopies (p .lower) (p .upper))) (g .disk)
+            ∙ (sym (run-append (copiesOf (g .made)) (mergeCopies (p .lower) (p .upper)) d₀)
+            ∙ ap (runCopies d₀) (sym copies)));
+        count = omega (
+          arith,
+          g .count,
+          c .count,
+          length-append (copiesOf (g .made)) (mergeCopies (p .lower) (p .upper)),
+          ap length copies,
+        );
+        whole = subst (λ b. Whole b (layoutOf r)) (sym (m .blocks)) (table-merged-whole (t .blocks) t p r fits m);
+        sized = m .sized;
+        small = omega (arith, g .small, m .blocks);
+        long = c .same ∙ (g .long ∙ ap (λ b. blockSize * b) (sym (m .blocks)));
+        blocks = m .blocks ∙ g .blocks;
+        exact = m .exact;
+        bounded = omega (
+          arith,
+          g .bounded,
+          c .most,
+          m .free,
+          ps .less f,
+          ap (λ n. greatestDisk * n) fewer-left,
+          mul-suc greatestDisk (r .free .count),
+        );
+      }
+    where
+      now : Merge
+      now = merge (p .lower) (p .upper) (freeOf (p .others)) (layoutOf t)
+
+      fewer-left : t .free .count ≡ suc (r .free .count)
+      fewer-left = omega (arith, m .free, ps .less f)
+
+      rest : (now ∷ []) ++ mergesOf r ≡ mergesOf t
+      rest =
+          sym (ap (λ n. mergeAll n 13 (layoutOf t)) fewer-left
+          ∙ (merge-more (r .free .count) (layoutOf t) now (merge-due (t .free .count) t p ps f)
+          ∙ ap (λ w. now ∷ mergeAll (r .free .count) 13 w) (sym (m .layout))))
+
+      last : layoutAfter (layoutOf t) (now ∷ []) ≡ now .after
+      last = last-one (layoutOf t) now
+
+      copies : copiesOf (g .made ++ (now ∷ [])) ≡ copiesOf (g .made) ++ mergeCopies (p .lower) (p .upper)
+      copies = copies-append (g .made) (now ∷ []) ∙ ap (λ z. copiesOf (g .made) ++ z) (copies-one now)
+
+-- no height has two any more
+pub settling-end : (t₀ : Table) (d₀ : List ℕ) (t : Table) (d : List ℕ) (copied : ℕ) → Settling t₀ d₀ t d copied
+    → (p : Pair)
+    → Pairs (t .free .count) (lowestPair 13 0 (freeOf (t .free))) p → p .found ≡ false
+    → Settles t₀ d₀ d (record { table = t; copied = copied })
+settling-end t₀ d₀ t d copied g p ps f =
+    let none = merge-none (t .free .count) (layoutOf t) (merge-settled (t .free .count) t p ps f) in
+    let all : g .made ≡ mergesOf t₀ = sym (append-nil (g .made)) ∙ (ap (λ z. g .made ++ z) (sym none) ∙ g .all) in
+    record {
+      layout = g .layout ∙ ap (layoutAfter (layoutOf t₀)) all;
+      disk = g .disk ∙ ap (λ z. runCopies d₀ (copiesOf z)) all;
+      count = g .count ∙ ap (λ z. length (copiesOf z)) all;
+      sized = g .sized;
+      blocks = g .blocks;
+      exact = g .exact;
+    }

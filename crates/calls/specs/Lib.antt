@@ -1,0 +1,2 @@
+-- Definitions only: what the code of the calls asks for and promises.
+pub mod Settling

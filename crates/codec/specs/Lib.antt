@@ -1,0 +1,2 @@
+-- Definitions only: what storing and loading promise.
+pub mod Store

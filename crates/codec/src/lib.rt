@@ -1,0 +1,5 @@
+// The bytes of a catalogue, from a table and back.
+mod pieces;
+mod storing;
+
+pub use storing::store;

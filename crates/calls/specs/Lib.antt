@@ -1,2 +1,4 @@
 -- Definitions only: what the code of the calls asks for and promises.
 pub mod Settling
+pub mod Answers
+pub mod Opened

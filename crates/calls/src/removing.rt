@@ -1,7 +1,12 @@
 // Removing: merges until no height has two free pieces, with each merge's blocks copied at its step and counted.
 ghost use lib.ListN.{length};
+ghost use Rattle.table.specs.Tables.{layoutOf};
 ghost use Rattle.calls.specs.Settling.{CanSettle, Settles};
+ghost use Rattle.calls.specs.Opened.{Makes, Opened, removeOn};
+use crate::Answer;
+use crate::Changed;
 use crate::Settled;
+use section::Section;
 use table::Table;
 
 // Merges while a height has two free pieces.
@@ -23,4 +28,41 @@ pub fn settle(disk: &mut [u8], table: Table) -> Settled
         p = left.lowest_pair();
     }
     Settled { table: t, copied }
+}
+
+// A removal on a loaded table: the conditions past the catalogue, then the release and the merges.
+pub fn remove_in(disk: &mut [u8], t: Table, id: u16) -> Changed
+    requires { ⌜ Opened t ⌝ }
+    ensures { λ r. ⌜ Makes (λ cat. removeOn (layoutOf t) id cat (now (disk .entry))) (now (disk .exit)) r ⌝ }
+{
+    if disk.len() != Section::BLOCK_SIZE * (t.blocks as usize) {
+        return Changed {
+            answer: Answer::DiskLength,
+            changed: false,
+            table: t,
+        };
+    }
+    if id == 0 {
+        return Changed {
+            answer: Answer::IdZero,
+            changed: false,
+            table: t,
+        };
+    }
+    let i = t.find(id as u32);
+    if i >= t.count {
+        return Changed {
+            answer: Answer::IdMissing,
+            changed: false,
+            table: t,
+        };
+    }
+    let released = t.release(i);
+    let s = settle(disk, released);
+    let table = s.table;
+    Changed {
+        answer: Answer::Number(s.copied),
+        changed: true,
+        table,
+    }
 }

@@ -1,0 +1,90 @@
+-- `calls::removing::remove_in` meets its contract: the refusals by their conditions, then the release and the merges.
+-- Assumes nothing.
+use mathlib.Core.Path.{_≡_, _∙_, ap, sym}
+use native.Mathlib.Omega.{arith}
+use borrow.Author.Needs.{needs}
+use Rattle.calls.proofs.Removals.{remove-can-settle, remove-id-zero, remove-makes, remove-missing}
+use Rattle.calls.proofs.Removals.{remove-place, remove-room, remove-wrong-disk}
+use Rattle.calls.proofs.removing.remove_in.Statement.{statement}
+use Rattle.calls.proofs.removing.remove_in.Tie as tie
+
+cast-if1 : tie.Need-cast-if1
+cast-if1 c = search needs
+
+mul-if1 : tie.Need-mul-if1
+mul-if1 c = search needs
+
+returns : tie.Need-returns
+returns c =
+    let a = c .before .before .before in
+    remove-wrong-disk (a .args .t) (a .pre) (a .args .id) (a .args .disk .now) (λ e. c .if1 .taken e)
+
+returns-2 : tie.Need-returns-2
+returns-2 c =
+    let a = c .before .before .before .before in
+    remove-id-zero (a .args .t) (a .pre) (a .args .id) (a .args .disk .now) (c .before .if1 .left) (c .if2 .taken)
+
+find-requires : tie.Need-find-requires
+find-requires c κs = c .before .before .before .before .pre .sized .files
+
+returns-3 : tie.Need-returns-3
+returns-3 c =
+    let b = c .before .before in
+    let a = b .before .before .before .before .before in
+    remove-missing (a .args .t) (a .pre) (a .args .id) (a .args .disk .now) (b .before .before .if1 .left) (b .before .if2 .left)
+    (b .find .result) (b .find .ensures .place) (c .if3 .taken)
+
+release-requires : tie.Need-release-requires
+release-requires c κs =
+    let b = c .before .before in
+    let a = b .before .before .before .before .before in
+    let ld = b .before .before .if1 .left in
+    let nz = b .before .if2 .left in
+    let lt = c .if3 .left in (
+      a .pre .sized,
+      (
+        (
+          lt,
+          remove-room (a .args .t) (a .pre) (a .args .id) (a .args .disk .now) ld nz (b .find .result)
+              (b .find .ensures .place) lt,
+        ),
+        remove-place (a .args .t) (a .pre) (a .args .id) (a .args .disk .now) ld nz (b .find .result)
+            (b .find .ensures .place) lt,
+      ),
+    )
+
+settle-requires : tie.Need-settle-requires
+settle-requires c κs =
+    let b = c .before .before .before .before in
+    let a = b .before .before .before .before .before in
+    remove-can-settle (a .args .t) (a .pre) (a .args .id) (a .args .disk .now) (b .before .before .if1 .left) (b .before .if2 .left)
+    (b .find .result) (b .find .ensures .place) (c .before .before .if3 .left)
+    (c .before .release .result) (c .before .release .ensures)
+
+same-length : tie.Need-same-length
+same-length c = search needs
+
+returns-4 : tie.Need-returns-4
+returns-4 c =
+    let s = c .before .before .before in
+    let b = s .before .before .before .before .before in
+    let a = b .before .before .before .before .before in
+    remove-makes (a .args .t) (a .pre) (a .args .id) (a .args .disk .now) (b .before .before .if1 .left) (b .before .if2 .left)
+    (b .find .result) (b .find .ensures .place) (s .before .before .before .if3 .left)
+    (s .before .before .release .result) (s .before .before .release .ensures) _
+    (s .settle .result) (s .settle .ensures)
+
+pub remove-in-spec : {M : Type 1} → statement M
+remove-in-spec =
+    tie.close
+    (tie.spec
+    cast-if1
+    mul-if1
+    returns
+    returns-2
+    find-requires
+    returns-3
+    release-requires
+    settle-requires
+    same-length
+    returns-4)

@@ -1,0 +1,141 @@
+-- The bytes of a whole table: what a sound table gives, the room, and all parts together. Assumes nothing.
+use mathlib.Core.List.{List, [], _++_, _∷_}
+use mathlib.Core.Path.{_∙_, _≡_, ap, ap₂, refl, sym}
+use Prim.Native.Nat.{_-_, _<_, _≤_, suc, zero, ℕ}
+use native.Mathlib.Omega.{arith}
+use lib.ListN.{length, length-map, replicate, take}
+use lib.Seq.{length-take-le}
+use Rattle.section.specs.Limits.{catalogueSize}
+use Rattle.section.specs.declared.Section.{Section}
+use Rattle.layout.proofs.Lists.{each-and, each-imp, each-left, each-right, each-unmap}
+use Rattle.layout.specs.Layout.{File, filePieces}
+use Rattle.layout.specs.Lists.{Each, done, more}
+use Rattle.layout.specs.Sound.{Sound}
+use Rattle.table.specs.Tables.{Sized, fileOf, filesOf, freeOf, layoutOf}
+use Rattle.table.specs.declared.Entry.{Entry}
+use Rattle.table.specs.declared.Table.{Table}
+use Rattle.catalogue.proofs.Roomy.{version1-roomy}
+use Rattle.catalogue.proofs.Size.{used-most}
+use Rattle.catalogue.specs.Encoding.{bigEndian, encode, entriesBytes, headerBytes, pairsBytes, usedBytes}
+use Rattle.catalogue.specs.Version.{version1}
+use Rattle.encoder.specs.Store.{Low, LowFiles, Room, Written}
+use Rattle.encoder.proofs.StoreWritten.{room-left, room-right, written-more}
+
+each-take : {A : Type 0} {P : A → Type 0} (n : ℕ) {l : List A} → Each P l → Each P (take n l)
+each-take zero e = done
+each-take (suc n) done = done
+each-take (suc n) (more p e) = more p (each-take n e)
+
+each-file : {P : Section → Type 0} (fs : List File) → Each P (filePieces fs)
+    → Each (λ (f : File). Each P (f .pieces)) fs
+unfolding filePieces
+each-file [] e = done
+each-file (f ∷ fs) e =
+    more {a = f} (each-left (f .pieces) (filePieces fs) e) (each-file fs (each-right (f .pieces) (filePieces fs) e))
+
+-- every height of a sound table has a length
+module _ (t : Table) (sized : Sized t) (sound : Sound 13 (layoutOf t)) where
+  all-low : Low (filePieces (filesOf t) ++ freeOf (t .free))
+  unfolding layoutOf
+  all-low = each-imp (λ (s : Section) (h : s .height .value < 13). omega arith) (sound .heights)
+
+  pub free-low : Low (freeOf (t .free))
+  free-low = each-right (filePieces (filesOf t)) (freeOf (t .free)) all-low
+
+  pub files-low : LowFiles t
+  unfolding filesOf
+  files-low = record {
+    most = sized .files;
+    each =
+        each-imp (λ (e : Entry) p. record { places = p .0; low = p .1 })
+        (each-and (each-take (t .count) (sized .each))
+        (each-unmap fileOf (take (t .count) (t .files))
+        (each-file (filesOf t) (each-left (filePieces (filesOf t)) (freeOf (t .free)) all-low))));
+  }
+
+pub files-count : (t : Table) → Sized t → length (t .files) ≡ 64 → t .count ≡ length (filesOf t)
+unfolding filesOf
+files-count t sized exact =
+    sym (length-map (take (t .count) (t .files)) fileOf
+    ∙ length-take-le (t .count) (t .files) (omega (arith, sized .files)))
+
+-- ---- the header
+
+module _ (t : Table) (k : ℕ) (count : k ≡ length (filesOf t)) where
+  header-parts : headerBytes version1 (layoutOf t)
+      ≡ bigEndian 2 1 ++ (bigEndian 2 (t .blocks) ++ bigEndian 2 k)
+  unfolding headerBytes layoutOf
+  header-parts = rw count
+
+  module _ (cat : List ℕ) (room : Room cat 0 (headerBytes version1 (layoutOf t))) where
+    parts-room : Room cat 0 (bigEndian 2 1 ++ (bigEndian 2 (t .blocks) ++ bigEndian 2 k))
+    parts-room = rw (← header-parts) room
+
+    pub version-room : Room cat 0 (bigEndian 2 1)
+    version-room = room-left cat (bigEndian 2 1) (bigEndian 2 (t .blocks) ++ bigEndian 2 k) 0 parts-room
+
+    module _ (c₁ : List ℕ) (r₁ : ℕ) (w₁ : Written cat 0 (bigEndian 2 1) c₁ r₁) where
+      rest-room : Room c₁ r₁ (bigEndian 2 (t .blocks) ++ bigEndian 2 k)
+      rest-room = room-right (bigEndian 2 1) (bigEndian 2 (t .blocks) ++ bigEndian 2 k) w₁ parts-room
+
+      pub blocks-room : Room c₁ r₁ (bigEndian 2 (t .blocks))
+      blocks-room = room-left c₁ (bigEndian 2 (t .blocks)) (bigEndian 2 k) r₁ rest-room
+
+      module _ (c₂ : List ℕ) (r₂ : ℕ) (w₂ : Written c₁ r₁ (bigEndian 2 (t .blocks)) c₂ r₂) where
+        pub count-room : Room c₂ r₂ (bigEndian 2 k)
+        count-room = room-right (bigEndian 2 (t .blocks)) (bigEndian 2 k) w₂ rest-room
+
+        pub header-written : (c₃ : List ℕ) (r₃ : ℕ) → Written c₂ r₂ (bigEndian 2 k) c₃ r₃
+            → Written cat 0 (headerBytes version1 (layoutOf t)) c₃ r₃
+        header-written c₃ r₃ w₃ = rw header-parts (written-more w₁ (written-more w₂ w₃))
+
+-- ---- all parts
+
+module _ (t : Table) (sound : Sound 13 (layoutOf t)) (cat : List ℕ) (full : length cat ≡ catalogueSize) where
+  abbrev header : List ℕ
+  header = headerBytes version1 (layoutOf t)
+
+  abbrev files : List ℕ
+  files = entriesBytes 2 (filesOf t)
+
+  abbrev free : List ℕ
+  free = pairsBytes 2 (freeOf (t .free))
+
+  used-parts : usedBytes version1 (layoutOf t) ≡ header ++ (files ++ free)
+  unfolding usedBytes layoutOf
+  used-parts = refl
+
+  used-room : Room cat 0 (header ++ (files ++ free))
+  used-room = rw (← used-parts) (omega (arith, used-most version1 version1-roomy (layoutOf t) sound))
+
+  pub header-room : Room cat 0 header
+  header-room = room-left cat header (files ++ free) 0 used-room
+
+  module _ (c₁ : List ℕ) (r₁ : ℕ) (w₁ : Written cat 0 header c₁ r₁) where
+    lists-room : Room c₁ r₁ (files ++ free)
+    lists-room = room-right header (files ++ free) w₁ used-room
+
+    pub files-room : Room c₁ r₁ files
+    files-room = room-left c₁ files free r₁ lists-room
+
+    module _ (c₂ : List ℕ) (r₂ : ℕ) (w₂ : Written c₁ r₁ files c₂ r₂) where
+      pub free-room : Room c₂ r₂ free
+      free-room = room-right files free w₂ lists-room
+
+      module _ (c₃ : List ℕ) (r₃ : ℕ) (w₃ : Written c₂ r₂ free c₃ r₃) where
+        all-written : Written cat 0 (header ++ (files ++ free)) c₃ r₃
+        all-written = written-more w₁ (written-more w₂ w₃)
+
+        pub end-room : r₃ ≤ length c₃
+        end-room = omega (arith, all-written .next, all-written .exact, used-room)
+
+        -- with zero bytes to the end it is the encoding
+        pub stored : (last : List ℕ) → last ≡ take r₃ c₃ ++ replicate (length c₃ - r₃) 0
+            → last ≡ encode version1 (layoutOf t)
+        unfolding encode
+        stored last e =
+            let n : r₃ ≡ length (usedBytes version1 (layoutOf t)) =
+            omega (arith, all-written .next, ap length used-parts) in
+            e
+            ∙ ap₂ (λ l m. l ++ replicate m 0) (all-written .front ∙ sym used-parts)
+            (ap₂ (λ l m. l - m) (all-written .exact ∙ full) n)

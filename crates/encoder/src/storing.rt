@@ -1,0 +1,124 @@
+// A table stored as the bytes of a catalogue, front to back: each function writes its bytes from `at` on and answers
+// the position after them, and `clear` writes the zero bytes after the last.
+use crate::pieces;
+use section::Section;
+use table::Entry;
+use table::Free;
+use table::Table;
+ghost use mathlib.Core.List.{_++_};
+ghost use mathlib.Core.Path.{_≡_};
+ghost use Prim.Native.Nat.{_-_, _≤_};
+ghost use lib.ListN.{length, replicate, take};
+ghost use Rattle.section.specs.Heights.{NoHigher};
+ghost use Rattle.section.specs.Limits.{catalogueSize};
+ghost use Rattle.layout.specs.Sound.{Sound};
+ghost use Rattle.table.specs.Tables.{Sized, fileOf, filesOf, freeOf, freePlaces, layoutOf};
+ghost use Rattle.catalogue.specs.Encoding.{bigEndian, encode, entriesBytes, entryBytes, headerBytes, pairBytes, pairsBytes};
+ghost use Rattle.catalogue.specs.Version.{version1};
+ghost use Rattle.encoder.specs.Store.{Low, LowEntry, LowFiles, Room, Written};
+
+// Writes a number in two bytes, the high one first.
+fn write_field(cat: &mut [u8], at: usize, value: u32) -> usize
+    requires { ⌜ Room (now cat) at (bigEndian 2 value) ⌝ }
+    ensures { λ r. ⌜ Written (now (cat .entry)) at (bigEndian 2 value) (now (cat .exit)) r ⌝ }
+{
+    cat[at] = (value / 256 % 256) as u8;
+    cat[at + 1] = (value % 256) as u8;
+    at + 2
+}
+
+// Writes first block and length.
+fn write_pair(cat: &mut [u8], at: usize, s: Section) -> usize
+    requires { ⌜ NoHigher (s .height) ⌝ }
+    requires { ⌜ Room (now cat) at (pairBytes 2 s) ⌝ }
+    ensures { λ r. ⌜ Written (now (cat .entry)) at (pairBytes 2 s) (now (cat .exit)) r ⌝ }
+{
+    let h = s.height;
+    let first = s.first;
+    let length = h.length();
+    let next = write_field(cat, at, first);
+    write_field(cat, next, length)
+}
+
+// Writes the pairs of a list.
+fn write_pairs(cat: &mut [u8], at: usize, l: Free) -> usize
+    requires { ⌜ l .count ≤ freePlaces ⌝ }
+    requires { ⌜ Low (freeOf l) ⌝ }
+    requires { ⌜ Room (now cat) at (pairsBytes 2 (freeOf l)) ⌝ }
+    ensures { λ r. ⌜ Written (now (cat .entry)) at (pairsBytes 2 (freeOf l)) (now (cat .exit)) r ⌝ }
+{
+    let count = l.count;
+    let mut next = at;
+    let mut i: usize = 0;
+    while i < count {
+        let s = l.items[i];
+        next = write_pair(cat, next, s);
+        i += 1;
+    }
+    next
+}
+
+// Writes a file entry: id, blocks, and the pairs by rising first block.
+fn write_entry(cat: &mut [u8], at: usize, e: Entry) -> usize
+    requires { ⌜ LowEntry e ⌝ }
+    requires { ⌜ Room (now cat) at (entryBytes 2 (fileOf e)) ⌝ }
+    ensures { λ r. ⌜ Written (now (cat .entry)) at (entryBytes 2 (fileOf e)) (now (cat .exit)) r ⌝ }
+{
+    let after_id = write_field(cat, at, e.id);
+    let after_blocks = write_field(cat, after_id, pieces::file_blocks(e));
+    write_pairs(cat, after_blocks, pieces::sorted_pieces(e))
+}
+
+// Writes the file entries.
+fn write_entries(cat: &mut [u8], at: usize, t: Table) -> usize
+    requires { ⌜ LowFiles t ⌝ }
+    requires { ⌜ Room (now cat) at (entriesBytes 2 (filesOf t)) ⌝ }
+    ensures { λ r. ⌜ Written (now (cat .entry)) at (entriesBytes 2 (filesOf t)) (now (cat .exit)) r ⌝ }
+{
+    let count = t.count;
+    let mut next = at;
+    let mut i: usize = 0;
+    while i < count {
+        let e = t.files[i];
+        next = write_entry(cat, next, e);
+        i += 1;
+    }
+    next
+}
+
+// Writes version, number of blocks and number of files.
+fn write_header(cat: &mut [u8], t: Table) -> usize
+    requires { ⌜ Sized t ⌝ }
+    requires { ⌜ Room (now cat) 0 (headerBytes version1 (layoutOf t)) ⌝ }
+    ensures { λ r. ⌜ Written (now (cat .entry)) 0 (headerBytes version1 (layoutOf t)) (now (cat .exit)) r ⌝ }
+{
+    let version: u32 = 1;
+    let after_version = write_field(cat, 0, version);
+    let after_blocks = write_field(cat, after_version, t.blocks);
+    write_field(cat, after_blocks, t.count as u32)
+}
+
+// Writes zero bytes to the end.
+fn clear(cat: &mut [u8], at: usize)
+    requires { ⌜ at ≤ length (now cat) ⌝ }
+    ensures { λ _. ⌜ now (cat .exit) ≡ take at (now (cat .entry)) ++ replicate (length (now (cat .entry)) - at) 0 ⌝ }
+{
+    let mut i = at;
+    while i < cat.len() {
+        cat[i] = 0;
+        i += 1;
+    }
+}
+
+// Writes the catalogue of a table: header, file entries, free pairs, and zero bytes to the end.
+pub fn store(cat: &mut [u8], t: Table)
+    requires { ⌜ length (now cat) ≡ catalogueSize ⌝ }
+    requires { ⌜ Sized t ⌝ }
+    requires { ⌜ Sound 13 (layoutOf t) ⌝ }
+    ensures { λ _. ⌜ now (cat .exit) ≡ encode version1 (layoutOf t) ⌝ }
+{
+    let after_header = write_header(cat, t);
+    let after_files = write_entries(cat, after_header, t);
+    let end = write_pairs(cat, after_files, t.free);
+    clear(cat, end);
+}

@@ -1,0 +1,38 @@
+// The text of a catalogue and of a refusal, as document 01 has it in "Printing a catalogue".
+//
+// Every function writes behind what stands in the buffer already, and answers the place behind what it wrote.
+ghost use mathlib.Core.Path.{_≡_};
+ghost use Prim.Native.Nat.{_≤_};
+ghost use lib.ListN.{length, take};
+ghost use Rattle.layout.specs.Sound.{Sound};
+ghost use Rattle.manager.specs.Printing.{layoutText, refusalText};
+ghost use Rattle.table.specs.Tables.{Sized, layoutOf};
+ghost use Rattle.printing.specs.Texts.{textRoom, refusalRoom, Prints};
+use table::Table;
+
+mod files;
+mod pairs;
+mod text;
+
+// Writes the text of the layout that the table stands for.
+pub fn print_table(t: Table, out: &mut [u8]) -> usize
+    requires places { ⌜ Sized t ⌝ }
+    requires sound { ⌜ Sound 13 (layoutOf t) ⌝ }
+    requires room { ⌜ textRoom ≤ length (now out) ⌝ }
+    ensures { λ r. ⌜ Prints (layoutText (layoutOf t)) (now (out .exit)) r ⌝ }
+{
+    let a = files::write_first_line(out, 0, t);
+    let b = files::write_files(out, a, t);
+    let c = text::write_bytes(out, b, b"free\n");
+    pairs::write_pairs(out, c, t.free)
+}
+
+// Writes the text of a refusal.
+pub fn print_refusal(number: u32, out: &mut [u8]) -> usize
+    requires { ⌜ refusalRoom ≤ length (now out) ⌝ }
+    ensures { λ r. ⌜ Prints (refusalText number) (now (out .exit)) r ⌝ }
+{
+    let a = text::write_bytes(out, 0, b"refused ");
+    let b = text::write_decimal(out, a, number);
+    text::write_bytes(out, b, b"\n")
+}

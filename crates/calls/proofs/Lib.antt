@@ -2,3 +2,12 @@
 pub mod Settling
 pub mod Refusing
 pub mod Removals
+pub mod LookedUp
+pub mod LookChecks
+pub mod LookJudged
+pub mod ReadJudged
+pub mod FreeSum
+pub mod Placing
+pub mod AddChecks
+pub mod AddJudged
+pub mod FreshTable

@@ -2,20 +2,16 @@
 -- Assumes nothing.
 use mathlib.Core.Bool.{false, true}
 use mathlib.Core.List.{List, []}
-use mathlib.Core.Path.{_∙_, _≡_, ap, refl, sym}
+use mathlib.Core.Path.{_∙_, _≡_, ap, subst, sym}
 use Prim.Native.Nat.{ℕ}
 use native.Mathlib.Omega.{arith}
-use Rattle.calls.specs.Answers.{replyOf}
+use Rattle.calls.specs.Answers.{refusing, replyOf}
 use Rattle.calls.specs.Opened.{Makes}
 use Rattle.calls.specs.declared.Answer.{Answer}
 use Rattle.calls.specs.declared.Changed.{Changed}
 use Rattle.manager.specs.Conditions.{Judgement, Outcome, refusal, refused, unlessRefused}
 use Rattle.table.specs.Tables.{Sized}
 use Rattle.table.specs.declared.Table.{Table}
-
--- the table as it was, with a refusal
-abbrev pub refusing : Answer → Table → Changed
-refusing a t = record { answer = a; changed = false; table = t }
 
 not-changed : {A : Type 0} → false ≡ true → A
 not-changed e = absurd (let z : _≡_ {A = ℕ} 0 1 = cc in omega arith)
@@ -31,3 +27,7 @@ refused-makes j n e a m d act t s = record {
   rules = λ c. not-changed c;
   sized = s;
 }
+
+-- what is made by a call that answers r
+pub made-as : {o : List ℕ → Outcome} {d′ : List ℕ} {r s : Changed} → r ≡ s → Makes o d′ s → Makes o d′ r
+made-as {o} {d′} e m = subst (λ z. Makes o d′ z) (sym e) m

@@ -7,10 +7,11 @@ use native.Mathlib.Omega.{arith}
 use lib.Dec.{eqb}
 use lib.ListN.{length}
 use borrow.Author.Tests.{eq-eqb, ne-eqb}
-use Rattle.calls.proofs.Refusing.{refused-makes, refusing}
+use Rattle.calls.proofs.Refusing.{refused-makes}
+use Rattle.calls.specs.Answers.{refusing}
+use Rattle.calls.specs.declared.Answer.the-variants as Answer·
 use Rattle.calls.specs.Opened.{Makes, Opened, removeOn}
 use Rattle.calls.specs.Settling.{CanSettle, Settles, mergesOf}
-use Rattle.calls.specs.declared.Answer.the-variants as Answer·
 use Rattle.calls.specs.declared.Settled.{Settled}
 use Rattle.catalogue.specs.Encoding.{encode}
 use Rattle.catalogue.specs.Version.{version1}
@@ -19,12 +20,11 @@ use Rattle.layout.proofs.MergeKeeps.{Whole}
 use Rattle.layout.proofs.Removed.{Removes, removal-keeps}
 use Rattle.layout.proofs.SoundSums.{SoundSums}
 use Rattle.layout.proofs.Soundness.{sound-sums, sums-sound}
-use Rattle.layout.specs.Layout.{File, Found, findFile, found, hasFile, isFound}
+use Rattle.layout.specs.Layout.{File, findFile, found, hasFile, isFound}
 use Rattle.layout.specs.Removing.{copiesOf, layoutAfter, mergeAll, release, removal}
 use Rattle.layout.specs.Sound.{Sound}
 use Rattle.manager.proofs.Judging.{passes, refuses-by}
-use Rattle.manager.specs.Conditions.{allowed, answered, condition, fileChecks, firstRefusal, refusal, unlessRefused}
-use Rattle.manager.specs.Conditions.{wrongDisk}
+use Rattle.manager.specs.Conditions.{answered, condition, fileChecks, firstRefusal, unlessRefused, wrongDisk}
 use Rattle.manager.specs.Disk.{runCopies}
 use Rattle.manager.specs.Outcomes.{afterMerges, removeFound}
 use Rattle.section.specs.Limits.{blockSize, greatestDisk, greatestHeight}
@@ -32,7 +32,7 @@ use Rattle.table.proofs.Released.{find-at, find-none, first-of-id}
 use Rattle.table.proofs.TableSteps.{few-free, table-released-whole}
 use Rattle.table.specs.Files.{entryAt, hasId}
 use Rattle.table.specs.Merges.{Released}
-use Rattle.table.specs.Places.{IsPlace, firstPlace}
+use Rattle.table.specs.Places.{firstPlace}
 use Rattle.table.specs.Tables.{fileOf, filesOf, layoutOf, piecePlaces}
 use Rattle.table.specs.declared.Table.{Table}
 

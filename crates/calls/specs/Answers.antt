@@ -1,6 +1,10 @@
--- What the code's answers stand for: document 01's number of each refusal, and the answered number. Definitions only.
+-- What the code's answers stand for: document 01's number of each refusal, and the answered number; and a
+-- call that is refused. Definitions only.
+use mathlib.Core.Bool.{false}
 use Rattle.manager.specs.Conditions.{Reply, answered, refused}
+use Rattle.table.specs.declared.Table.{Table}
 use Rattle.calls.specs.declared.Answer.{Answer}
+use Rattle.calls.specs.declared.Changed.{Changed}
 use Rattle.calls.specs.declared.Answer.the-variants as Answer·
 
 abbrev pub replyOf : Answer → Reply
@@ -16,3 +20,7 @@ replyOf Answer·.BufferLength = refused 8
 replyOf Answer·.PastEnd = refused 9
 replyOf Answer·.FilesFull = refused 10
 replyOf Answer·.NoSpace = refused 11
+
+-- the table as it was, with a refusal
+abbrev pub refusing : Answer → Table → Changed
+refusing a t = record { answer = a; changed = false; table = t }

@@ -2,3 +2,5 @@
 pub mod Settling
 pub mod Answers
 pub mod Opened
+pub mod Adding
+pub mod Fresh

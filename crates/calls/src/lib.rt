@@ -1,6 +1,19 @@
-// The calls on a lent catalogue and a lent disk, over the table.
+// The calls past the catalogue: on a table that was loaded, and on a lent disk.
+ghost use mathlib.Core.Path.{_≡_};
+ghost use Rattle.calls.specs.Answers.{refusing};
+
+mod adding;
+mod free;
+mod fresh;
+mod looking;
 mod removing;
 
+pub use adding::add_in;
+pub use free::free_in;
+pub use fresh::fresh_table;
+pub use looking::breaks_in;
+pub use looking::check_in;
+pub use looking::read_in;
 pub use removing::remove_in;
 pub use removing::settle;
 use table::Table;
@@ -32,4 +45,15 @@ pub struct Changed {
     pub answer: Answer,
     pub changed: bool,
     pub table: Table,
+}
+
+// The table as it was, with the answer of a call that is refused.
+pub fn kept(t: Table, answer: Answer) -> Changed
+    ensures { λ r. ⌜ r ≡ refusing answer t ⌝ }
+{
+    Changed {
+        answer,
+        changed: false,
+        table: t,
+    }
 }

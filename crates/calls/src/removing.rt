@@ -6,6 +6,7 @@ ghost use Rattle.calls.specs.Opened.{Makes, Opened, removeOn};
 use crate::Answer;
 use crate::Changed;
 use crate::Settled;
+use crate::kept;
 use section::Section;
 use table::Table;
 
@@ -36,26 +37,14 @@ pub fn remove_in(disk: &mut [u8], t: Table, id: u16) -> Changed
     ensures { λ r. ⌜ Makes (λ cat. removeOn (layoutOf t) id cat (now (disk .entry))) (now (disk .exit)) r ⌝ }
 {
     if disk.len() != Section::BLOCK_SIZE * (t.blocks as usize) {
-        return Changed {
-            answer: Answer::DiskLength,
-            changed: false,
-            table: t,
-        };
+        return kept(t, Answer::DiskLength);
     }
     if id == 0 {
-        return Changed {
-            answer: Answer::IdZero,
-            changed: false,
-            table: t,
-        };
+        return kept(t, Answer::IdZero);
     }
     let i = t.find(id as u32);
     if i >= t.count {
-        return Changed {
-            answer: Answer::IdMissing,
-            changed: false,
-            table: t,
-        };
+        return kept(t, Answer::IdMissing);
     }
     let released = t.release(i);
     let s = settle(disk, released);

@@ -3,6 +3,7 @@
 use mathlib.Core.Path.{_≡_, _∙_, ap, sym}
 use native.Mathlib.Omega.{arith}
 use borrow.Author.Needs.{needs}
+use Rattle.calls.proofs.Refusing.{made-as}
 use Rattle.calls.proofs.Removals.{remove-can-settle, remove-id-zero, remove-makes, remove-missing}
 use Rattle.calls.proofs.Removals.{remove-place, remove-room, remove-wrong-disk}
 use Rattle.calls.proofs.removing.remove_in.Statement.{statement}
@@ -14,25 +15,40 @@ cast-if1 c = search needs
 mul-if1 : tie.Need-mul-if1
 mul-if1 c = search needs
 
+kept-requires : tie.Need-kept-requires
+kept-requires c κs = search needs
+
 returns : tie.Need-returns
 returns c =
-    let a = c .before .before .before in
-    remove-wrong-disk (a .args .t) (a .pre) (a .args .id) (a .args .disk .now) (λ e. c .if1 .taken e)
+    let b = c .before in
+    let a = b .before .before .before in
+    made-as (c .kept .ensures)
+    (remove-wrong-disk (a .args .t) (a .pre) (a .args .id) (a .args .disk .now) (λ e. b .if1 .taken e))
+
+kept-requires-2 : tie.Need-kept-requires-2
+kept-requires-2 c κs = search needs
 
 returns-2 : tie.Need-returns-2
 returns-2 c =
-    let a = c .before .before .before .before in
-    remove-id-zero (a .args .t) (a .pre) (a .args .id) (a .args .disk .now) (c .before .if1 .left) (c .if2 .taken)
+    let b = c .before in
+    let a = b .before .before .before .before in
+    made-as (c .kept2 .ensures)
+    (remove-id-zero (a .args .t) (a .pre) (a .args .id) (a .args .disk .now) (b .before .if1 .left) (b .if2 .taken))
 
 find-requires : tie.Need-find-requires
 find-requires c κs = c .before .before .before .before .pre .sized .files
 
+kept-requires-3 : tie.Need-kept-requires-3
+kept-requires-3 c κs = search needs
+
 returns-3 : tie.Need-returns-3
 returns-3 c =
-    let b = c .before .before in
-    let a = b .before .before .before .before .before in
-    remove-missing (a .args .t) (a .pre) (a .args .id) (a .args .disk .now) (b .before .before .if1 .left) (b .before .if2 .left)
-    (b .find .result) (b .find .ensures .place) (c .if3 .taken)
+    let b = c .before in
+    let f = b .before .before in
+    let a = f .before .before .before .before .before in
+    made-as (c .kept3 .ensures)
+    (remove-missing (a .args .t) (a .pre) (a .args .id) (a .args .disk .now) (f .before .before .if1 .left) (f .before .if2 .left)
+    (f .find .result) (f .find .ensures .place) (b .if3 .taken))
 
 release-requires : tie.Need-release-requires
 release-requires c κs =
@@ -80,9 +96,12 @@ remove-in-spec =
     (tie.spec
     cast-if1
     mul-if1
+    kept-requires
     returns
+    kept-requires-2
     returns-2
     find-requires
+    kept-requires-3
     returns-3
     release-requires
     settle-requires

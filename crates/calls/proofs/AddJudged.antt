@@ -1,0 +1,162 @@
+-- Adding in code: a law for each refusal, in the order of the conditions, and one for the answer. Assumes nothing.
+use mathlib.Core.Bool.{_||_, false, not, true}
+use mathlib.Core.List.{List, []}
+use mathlib.Core.Path.{_∙_, _≡_, ap, ap₂, refl, sym}
+use Prim.Native.Nat.{_%_, _*_, _<_, _≤_, ℕ}
+use native.Mathlib.Omega.{arith}
+use lib.Dec.{eqb}
+use lib.ListN.{length}
+use borrow.Author.Tests.{eq-eqb, le-leb, le-ltb, lt-leb, lt-ltb, ne-eqb}
+use Rattle.calls.proofs.AddChecks.{act, checks, judge-10, judge-11, judge-4, judge-5, judge-7, judge-8, judge-none}
+use Rattle.calls.proofs.Refusing.{refused-makes}
+use Rattle.calls.specs.Adding.{CanAdd, IsFree, Places}
+use Rattle.calls.specs.Answers.{refusing, replyOf}
+use Rattle.calls.specs.declared.Answer.the-variants as Answer·
+use Rattle.calls.specs.Opened.{Makes, Opened, addOn}
+use Rattle.calls.specs.declared.Answer.{Answer}
+use Rattle.catalogue.specs.Encoding.{encode}
+use Rattle.catalogue.specs.Version.{version1}
+use Rattle.layout.proofs.Swaps.{right}
+use Rattle.layout.specs.Adding.{allocate, allocated}
+use Rattle.layout.specs.Layout.{freeBlocks, hasFile, isFound}
+use Rattle.layout.specs.Sound.{greatestId}
+use Rattle.manager.specs.Conditions.{Outcome, answered, firstRefusal, refusal, refused, unlessRefused, unpaged, wrongDisk}
+use Rattle.manager.specs.Disk.{pageCount}
+use Rattle.manager.specs.Outcomes.{addPieces}
+use Rattle.section.specs.Limits.{blockSize, mostFiles}
+use Rattle.table.proofs.Released.{find-at, find-none}
+use Rattle.table.specs.Files.{hasId}
+use Rattle.table.specs.Places.{IsPlace, firstPlace}
+use Rattle.table.specs.Tables.{filesOf, layoutOf}
+use Rattle.table.specs.declared.Table.{Table}
+
+-- ---- the tests of the code
+
+place-fresh : (t : Table) → Opened t → (i r : ℕ) → IsPlace (t .count) (firstPlace (hasId i) (filesOf t)) r
+    → t .count ≤ r → hasFile i (filesOf t) ≡ false
+place-fresh t o i r p le = ap isFound (find-none t i r (omega (arith, o .array, o .sized .files)) (p .place) le)
+
+whole-paged : (bs : List ℕ) → (length bs ≡ 0 → ⊥) → length bs % blockSize ≡ 0 → unpaged bs ≡ false
+whole-paged bs n e =
+    ap₂ (λ s u. s || not u) (ne-eqb (length bs) 0 n) (eq-eqb (length bs % blockSize) 0 e)
+
+-- ---- the refusals
+
+module _ (t : Table) (o : Opened t) (i : ℕ) (bs d : List ℕ) where
+  abbrev Refuses : Answer → Type 0
+  Refuses a = Makes (λ cat. addOn (layoutOf t) i bs cat d) d (refusing a t)
+
+  refuse : (k : ℕ) (a : Answer) → replyOf a ≡ refused k → firstRefusal (checks (layoutOf t) i bs d) ≡ refusal k
+      → Refuses a
+  refuse k a q e =
+      refused-makes (firstRefusal (checks (layoutOf t) i bs d)) k e a q d (λ cat. act (layoutOf t) i bs cat d) t
+      (o .sized)
+
+  pub refuse-disk : (length d ≡ blockSize * t .blocks → ⊥) → Refuses Answer·.DiskLength
+  unfolding layoutOf
+  refuse-disk n =
+      refuse 4 Answer·.DiskLength refl
+      (judge-4 (layoutOf t) i bs d (ap not (ne-eqb (length d) (blockSize * t .blocks) n)))
+
+  module _ (right : length d ≡ blockSize * t .blocks) where
+    right-disk : wrongDisk (layoutOf t) d ≡ false
+    unfolding layoutOf
+    right-disk = ap not (eq-eqb (length d) (blockSize * t .blocks) right)
+
+    pub refuse-zero : i ≡ 0 → Refuses Answer·.IdZero
+    refuse-zero z = refuse 5 Answer·.IdZero refl (judge-5 (layoutOf t) i bs d right-disk (eq-eqb i 0 z))
+
+    module _ (some : i ≡ 0 → ⊥) where
+      pub refuse-there : (r : ℕ) → IsPlace (t .count) (firstPlace (hasId i) (filesOf t)) r → r < t .count
+          → Refuses Answer·.IdThere
+      unfolding layoutOf
+      refuse-there r p lt =
+          refuse 7 Answer·.IdThere refl
+          (judge-7 (layoutOf t) i bs d right-disk (ne-eqb i 0 some)
+          (ap isFound (find-at t i r (omega (arith, o .array, o .sized .files)) (p .place) lt)))
+
+      module _ (r : ℕ) (p : IsPlace (t .count) (firstPlace (hasId i) (filesOf t)) r) (le : t .count ≤ r) where
+        fresh : hasFile i (layoutOf t .files) ≡ false
+        unfolding layoutOf
+        fresh = place-fresh t o i r p le
+
+        pub refuse-empty : length bs ≡ 0 → Refuses Answer·.BufferLength
+        refuse-empty z =
+            refuse 8 Answer·.BufferLength refl
+            (judge-8 (layoutOf t) i bs d right-disk (ne-eqb i 0 some) fresh
+            (ap (λ s. s || not (eqb (length bs % blockSize) 0)) (eq-eqb (length bs) 0 z)))
+
+        module _ (full : length bs ≡ 0 → ⊥) where
+          pub refuse-part : (length bs % blockSize ≡ 0 → ⊥) → Refuses Answer·.BufferLength
+          refuse-part n =
+              refuse 8 Answer·.BufferLength refl
+              (judge-8 (layoutOf t) i bs d right-disk (ne-eqb i 0 some) fresh
+              (ap₂ (λ s u. s || not u) (ne-eqb (length bs) 0 full) (ne-eqb (length bs % blockSize) 0 n)))
+
+          module _ (whole : length bs % blockSize ≡ 0) where
+            pub refuse-files : mostFiles ≤ t .count → Refuses Answer·.FilesFull
+            unfolding layoutOf
+            refuse-files m =
+                refuse 10 Answer·.FilesFull refl
+                (judge-10 (layoutOf t) i bs d right-disk (ne-eqb i 0 some) fresh (whole-paged bs full whole)
+                (le-leb mostFiles (length (filesOf t)) (omega (arith, o .files))))
+
+            pub refuse-space : t .count < mostFiles → (f : ℕ) → IsFree t f → f < pageCount bs
+                → Refuses Answer·.NoSpace
+            unfolding layoutOf
+            refuse-space m f q s =
+                refuse 11 Answer·.NoSpace refl
+                (judge-11 (layoutOf t) i bs d right-disk (ne-eqb i 0 some) fresh (whole-paged bs full whole)
+                (lt-leb mostFiles (length (filesOf t)) (omega (arith, o .files)))
+                (lt-ltb (freeBlocks (layoutOf t)) (pageCount bs) (omega (arith, q .equal))))
+
+            -- nothing refuses
+            pub can-add : t .count < mostFiles → (f : ℕ) → IsFree t f → pageCount bs ≤ f → i ≤ greatestId
+                → CanAdd t i (pageCount bs) (length d) bs
+            can-add m f q s high = record {
+              opened = o;
+              disk = right;
+              least = omega (arith, some);
+              most = high;
+              fresh = place-fresh t o i r p le;
+              paged = whole-paged bs full whole;
+              few = m;
+              fits = omega (arith, q .equal);
+              pages = refl;
+            }
+
+-- ---- the answer
+
+allowed-is : (t : Table) (i n : ℕ) (bs d : List ℕ) → CanAdd t i n (length d) bs → (cat : List ℕ)
+    → addOn (layoutOf t) i bs cat d ≡ act (layoutOf t) i bs cat d
+unfolding layoutOf
+allowed-is t i n bs d c cat =
+    ap (λ j. unlessRefused j cat d [] (act (layoutOf t) i bs cat d))
+    (judge-none (layoutOf t) i bs d (ap not (eq-eqb (length d) (blockSize * t .blocks) (c .disk)))
+    (ne-eqb i 0 (λ z. omega (arith, c .least))) (c .fresh) (c .paged)
+    (lt-leb mostFiles (length (filesOf t)) (omega (arith, c .opened .files, c .few)))
+    (le-ltb (freeBlocks (layoutOf t)) (pageCount bs) (c .fits)))
+
+allocation-is : (t : Table) (i : ℕ) (bs d d′ : List ℕ) (r : Table) (p : Places t i bs d d′ r)
+    → allocate 0 13 (pageCount bs) (layoutOf t .free) ≡ allocated (p .pieces) (p .rest)
+unfolding layoutOf
+allocation-is t i bs d d′ r p = p .allocation
+
+pub answer-add : (t : Table) (i n : ℕ) (bs d d′ : List ℕ) (r : Table) → CanAdd t i n (length d) bs
+    → Places t i bs d d′ r
+    → Makes (λ cat. addOn (layoutOf t) i bs cat d) d′
+    (record { answer = Answer·.Number n; changed = true; table = r })
+answer-add t i n bs d d′ r c p = record {
+  answer = λ cat. ap answered (c .pages) ∙ sym (ap (λ (o : Outcome). o .reply) (done-is cat));
+  disk = λ cat. p .disk ∙ sym (ap (λ (o : Outcome). o .disk) (done-is cat));
+  kept = λ z. absurd (let y : _≡_ {A = ℕ} 0 1 = cc in omega arith);
+  stored = λ _ cat. ap (encode version1) (p .layout) ∙ sym (ap (λ (o : Outcome). o .catalogue) (done-is cat));
+  rules = λ _. p .rules;
+  sized = p .sized;
+}
+  where
+    done-is : (cat : List ℕ) → addOn (layoutOf t) i bs cat d
+        ≡ addPieces version1 i bs cat d (layoutOf t) (allocated (p .pieces) (p .rest))
+    done-is cat =
+        allowed-is t i n bs d c cat
+        ∙ ap (addPieces version1 i bs cat d (layoutOf t)) (allocation-is t i bs d d′ r p)

@@ -1,0 +1,96 @@
+-- The free pieces of a fresh disk, height by height, and its table. Assumes nothing.
+use mathlib.Core.List.{List, [], _++_, _∷_, append-nil}
+use mathlib.Core.Path.{_∙_, _≡_, ap, ap₂, refl, subst, sym}
+use Prim.Native.Nat.{_%_, _*_, _+_, _-_, _<_, _^_, _≤_, suc, zero, ℕ}
+use native.Mathlib.Nat.{mod-eq-of-lt, mod-le}
+use native.Mathlib.Omega.{arith}
+use lib.ListN.{length, replicate, set, take}
+use lib.Seq.{append-snoc}
+use Rattle.calls.specs.Fresh.{FreeFor, IsFresh, piecesWith}
+use Rattle.layout.proofs.Allocating.{mod-digit}
+use Rattle.layout.proofs.Fresh.{fresh-sound}
+use Rattle.layout.proofs.Soundness.{sums-sound}
+use Rattle.layout.specs.Layout.{Layout, digit, freshLayout, piecesFrom}
+use Rattle.layout.specs.Lists.{Each, done, more}
+use Rattle.layout.specs.Sound.{Sound}
+use Rattle.section.specs.Limits.{greatestDisk, greatestHeight}
+use Rattle.section.specs.Sections.{section}
+use Rattle.section.specs.declared.Section.{Section}
+use Rattle.table.proofs.PiecesLaid.{pushed}
+use Rattle.table.specs.Tables.{InPlaces, filesOf, freeOf, layoutOf}
+use Rattle.table.specs.declared.Entry.{Entry}
+use Rattle.table.specs.declared.Free.{Free}
+
+-- ---- one height
+
+module _ (c h : ℕ) where
+  -- by c's digit at h
+  from : ℕ → ℕ → List Section
+  from x d =
+      elim d as (λ _. List Section) [
+        | zero ↦ piecesFrom h c x
+        | suc _ ↦ section x h ∷ piecesFrom h c (x + 2 ^ h)
+      ]
+
+  step : (x : ℕ) → piecesFrom (suc h) c x ≡ from x (digit h c)
+  unfolding piecesFrom from
+  step x = refl
+
+  -- no piece of this height
+  pub pieces-skip : (f : Free) → digit h c ≡ 0 → piecesWith c h f ≡ piecesWith c (suc h) f
+  unfolding piecesWith from
+  pieces-skip f e =
+      let eq : c % 2 ^ suc h ≡ c % 2 ^ h = mod-digit c h ∙ (ap (λ z. z * 2 ^ h + c % 2 ^ h) e ∙ omega arith) in
+      ap (λ z. freeOf f ++ z)
+      (sym (ap (λ z. piecesFrom (suc h) c (c - z)) eq ∙ (step (c - c % 2 ^ h) ∙ ap (from (c - c % 2 ^ h)) e)))
+
+  -- one, which starts where the higher ones end
+  pub pieces-push : (f : Free) (x : ℕ) → digit h c ≡ 1 → x ≡ c - c % 2 ^ suc h → f .count < length (f .items)
+      → piecesWith c h (record { count = f .count + 1; items = set (f .items) (f .count) (section x h) })
+      ≡ piecesWith c (suc h) f
+  unfolding piecesWith freeOf from
+  pieces-push f x e g l =
+      let eq : c % 2 ^ suc h ≡ 2 ^ h + c % 2 ^ h =
+      mod-digit c h ∙ (ap (λ z. z * 2 ^ h + c % 2 ^ h) e ∙ omega arith) in
+      let on : c - c % 2 ^ h ≡ x + 2 ^ h = omega (arith, mod-le c (2 ^ suc h)) in
+      ap₂ (λ a y. a ++ piecesFrom h c y) (pushed (f .items) (f .count) (section x h) l) on
+      ∙ (append-snoc (take (f .count) (f .items)) (section x h) (piecesFrom h c (x + 2 ^ h))
+      ∙ ap (λ z. take (f .count) (f .items) ++ z)
+      (sym (ap (piecesFrom (suc h) c) (sym g) ∙ (step x ∙ ap (from x) e))))
+
+-- ---- from the first height to the last
+
+pub pieces-start : (c : ℕ) (f : Free) → c ≤ greatestDisk → freeOf f ≡ []
+    → piecesWith c (suc greatestHeight) f ≡ piecesFrom (suc greatestHeight) c 0
+unfolding piecesWith
+pieces-start c f p e =
+    let m : c % 2 ^ suc greatestHeight ≡ c = mod-eq-of-lt (omega arith) in
+    let z : c - c % 2 ^ suc greatestHeight ≡ 0 = omega (arith, m) in
+    ap₂ (λ a y. a ++ piecesFrom (suc greatestHeight) c y) e z
+
+pub pieces-end : (c h : ℕ) (f : Free) → h ≡ 0 → freeOf f ≡ piecesWith c h f
+unfolding piecesWith piecesFrom
+pieces-end c h f e =
+    sym (append-nil (freeOf f)) ∙ ap (λ k. freeOf f ++ piecesFrom k c (c - c % 2 ^ h)) (sym e)
+
+-- ---- the table
+
+each-replicate : {A : Type 0} {P : A → Type 0} (n : ℕ) (a : A) → P a → Each P (replicate n a)
+each-replicate zero a p = done
+each-replicate (suc n) a p = more p (each-replicate n a p)
+
+-- the entry of every place
+abbrev pub no-entry : Entry
+no-entry = record { id = 0; count = 0; items = replicate 13 (section 0 0) }
+
+pub is-fresh : (c : ℕ) (e : Entry) (f : Free) → 1 ≤ c → c ≤ greatestDisk → InPlaces e → FreeFor c f
+    → IsFresh c (record { blocks = c; count = 0; files = replicate 64 e; free = f })
+unfolding layoutOf filesOf freshLayout
+is-fresh c e f low most k g =
+    let same = ap {B = Layout} (λ (l : List Section). record { blocks = c; files = []; free = l }) (g .list) in
+    record {
+      layout = same;
+      rules = subst (Sound 13) (sym same) (sums-sound 13 (freshLayout 13 c)
+          (fresh-sound 13 c low (omega arith) (omega arith)));
+      sized = record { files = omega arith; free = omega (arith, g .most); each = each-replicate 64 e k };
+    }

@@ -1,0 +1,69 @@
+// Adding: the conditions in order, then the pieces, the pages and the new table.
+ghost use lib.ListN.{length};
+ghost use Rattle.table.specs.Tables.{layoutOf};
+ghost use Rattle.calls.specs.Opened.{Makes, Opened, addOn};
+ghost use Rattle.calls.specs.Adding.{CanAdd, Places};
+use super::free::free_in;
+use crate::Answer;
+use crate::Changed;
+use crate::kept;
+use section::Section;
+use table::Entry;
+use table::Table;
+
+// The file's pieces taken, its pages written, and the table with it.
+fn place_file(disk: &mut [u8], t: Table, id: u32, n: u32, content: &[u8]) -> Table
+    requires { ⌜ CanAdd t id n (length (now disk)) (now content) ⌝ }
+    ensures { λ r. ⌜ Places t id (now (content .entry)) (now (disk .entry)) (now (disk .exit)) r ⌝ }
+{
+    let free = t.free;
+    let laid = table::allocate(free, n);
+    let items = laid.items;
+    let e = Entry {
+        id,
+        count: laid.count,
+        items,
+    };
+    blocks::write_pages(disk, content, e);
+    let left = laid.free;
+    table::with_file(t, e, left)
+}
+
+// An add on a loaded table: the conditions past the catalogue, then the pages and the new table.
+pub fn add_in(disk: &mut [u8], t: Table, id: u16, content: &[u8]) -> Changed
+    requires { ⌜ Opened t ⌝ }
+    ensures { λ r. ⌜ Makes (λ cat. addOn (layoutOf t) id (now (content .entry)) cat (now (disk .entry)))
+        (now (disk .exit)) r ⌝ }
+{
+    if disk.len() != Section::BLOCK_SIZE * (t.blocks as usize) {
+        return kept(t, Answer::DiskLength);
+    }
+    if id == 0 {
+        return kept(t, Answer::IdZero);
+    }
+    let at = t.find(id as u32);
+    if at < t.count {
+        return kept(t, Answer::IdThere);
+    }
+    if content.len() == 0 {
+        return kept(t, Answer::BufferLength);
+    }
+    if content.len() % Section::BLOCK_SIZE != 0 {
+        return kept(t, Answer::BufferLength);
+    }
+    if t.count >= Section::MOST_FILES {
+        return kept(t, Answer::FilesFull);
+    }
+    let pages = content.len() / Section::BLOCK_SIZE;
+    let free = free_in(t);
+    if (free as usize) < pages {
+        return kept(t, Answer::NoSpace);
+    }
+    let n = pages as u32;
+    let table = place_file(disk, t, id as u32, n, content);
+    Changed {
+        answer: Answer::Number(n),
+        changed: true,
+        table,
+    }
+}

@@ -1,0 +1,118 @@
+-- A file that is not acceptable is in no sound layout, so reading may stop at it. Assumes nothing.
+use mathlib.Core.Bool.{Bool, _&&_, false, not, true}
+use mathlib.Core.List.{List, [], _∷_}
+use mathlib.Core.Path.{_∙_, _≡_, ap, refl, sym}
+use Prim.Native.Nat.{_-_, _<_, _^_, _≤_, ℕ}
+use native.Mathlib.Omega.{arith}
+use lib.Count.{ones}
+use lib.Dec.{eqb, leb, ltb}
+use lib.ListN.{length}
+use borrow.Author.Tests.{le-leb}
+use Rattle.catalogue.proofs.Tests.{and-intro, each-every, every-each, test-sound}
+use Rattle.catalogue.specs.Reading.{Read, Reading, bad, every, got, isSound, judged, pairwise, readPairs, sound}
+use Rattle.catalogue.specs.Reading.{soundFile, soundFree, soundPiece, then, unsound}
+use Rattle.catalogue.specs.Version.{version1}
+use Rattle.decoder.proofs.Points.{false-true, is-false}
+use Rattle.decoder.specs.Entries.{acceptable, allAccepted}
+use Rattle.layout.proofs.Lists.{each-and, each-imp, each-left, each-right}
+use Rattle.layout.specs.Layout.{File, Layout, allPieces, fileBlocks, filePieces}
+use Rattle.layout.specs.Lists.{Each, Pairwise, done, more, next, none, sumOf}
+use Rattle.section.proofs.Booleans.{and-true, false-and}
+use Rattle.section.proofs.Lengths.{pow-lt-inv}
+use Rattle.section.specs.Limits.{mostFiles}
+use Rattle.section.specs.Sections.{lengthOf, sharesBlock}
+use Rattle.section.specs.declared.Section.{Section}
+
+-- pieces of falling length, with heights below k, are at most k
+pub falling-few : (k : ℕ) {l : List Section} → Pairwise (λ (s t : Section). lengthOf t < lengthOf s) l
+    → Each (λ (s : Section). s .height .value < k) l
+    → length l ≤ k
+falling-few k none e = omega arith
+falling-few k (next {a = s} {l = l} p q) (more h e) =
+    omega (
+      arith,
+      falling-few (s .height .value) q
+          (each-imp (λ t. pow-lt-inv (t .height .value) (s .height .value)) p),
+    )
+
+each-files {κ} : {P : Section → Type κ} (fs : List File) → Each P (filePieces fs)
+    → Each (λ (f : File). Each P (f .pieces)) fs
+unfolding filePieces
+each-files [] e = done
+each-files (f ∷ fs) e =
+    more (each-left (f .pieces) (filePieces fs) e) (each-files fs (each-right (f .pieces) (filePieces fs) e))
+
+files-sound : (k : ℕ) (l : Layout) → isSound k l ≡ true → every soundFile (l .files) ≡ true
+unfolding isSound
+files-sound k l e =
+    let a1 = and-true (leb 1 (l .blocks)) _ e in
+    let a2 = and-true (leb (l .blocks) (2 ^ (k - 1))) _ (a1 .1) in
+    let a3 = and-true (leb (length (l .files)) mostFiles) _ (a2 .1) in
+    let a4 = and-true (pairwise (λ (f g : File). ltb (f .id) (g .id)) (l .files)) _ (a3 .1) in
+    and-true (every soundFile (l .files))
+    (leb (sumOf fileBlocks (l .files)) (l .blocks)
+    && (soundFree l
+    && (every (soundPiece k (l .blocks)) (allPieces l)
+    && pairwise (λ (s t : Section). not (sharesBlock s t)) (allPieces l))))
+    (a4 .1) .0
+
+pub sound-acceptable : (l : Layout) → isSound 13 l ≡ true → every acceptable (l .files) ≡ true
+unfolding acceptable
+sound-acceptable l e =
+    let s = test-sound 13 l e in
+    let low = each-files (l .files) (each-left (filePieces (l .files)) (l .free) (s .heights)) in
+    each-every acceptable
+    (each-imp
+    (λ f q. and-intro (le-leb (length (f .pieces)) 13 (falling-few 13 (q .0 .0) (q .0 .1))) (q .1))
+    (each-and (each-and (s .page-order) low) (every-each soundFile (l .files) (files-sound 13 l e))))
+
+pub acceptable-sound : (fs : List File) → every acceptable fs ≡ true → every soundFile fs ≡ true
+unfolding acceptable
+acceptable-sound fs e =
+    each-every soundFile
+    (each-imp (λ f q. and-true (leb (length (f .pieces)) 13) (soundFile f) q .1) (every-each acceptable fs e))
+
+-- ---- what is judged
+
+pub judged-unsound : (l : Layout) (r : List ℕ) → isSound 13 l ≡ false → judged version1 (got l r) ≡ unsound
+unfolding judged
+judged-unsound l r e =
+    ap (λ t. elim t as (λ _. Reading) [ true ↦ sound l | false ↦ unsound ]) (false-and (every (λ b. eqb b 0) r) e)
+
+-- the layout of C, the files and the free pairs that follow
+abbrev pub restOf : ℕ → List File → List ℕ → Read Layout
+restOf b fs r =
+    then (readPairs (ones (b - sumOf fileBlocks fs)) (version1 .heights) 2 r) λ free r′.
+    got (record { blocks = b; files = fs; free = free }) r′
+
+unacceptable : (b : ℕ) (fs : List File) (x : Read (List Section)) → every acceptable fs ≡ false
+    → judged version1 (then x λ free r′. got (record { blocks = b; files = fs; free = free }) r′) ≡ unsound
+unfolding judged
+unacceptable b fs (got free r) e =
+    judged-unsound (record { blocks = b; files = fs; free = free }) r
+    (is-false _ (λ t. false-true (sym e ∙ sound-acceptable (record { blocks = b; files = fs; free = free }) t)))
+unacceptable b fs bad e = refl
+
+pub stopped : (b : ℕ) (y : Read (List File)) → allAccepted y ≡ bad → judged version1 (then y (restOf b)) ≡ unsound
+unfolding allAccepted judged
+stopped b (got fs r) e = go (every acceptable fs) refl e
+  where
+    go : (t : Bool) → every acceptable fs ≡ t
+        → _≡_ {A = Read (List File)} (elim t as (λ _. Read (List File)) [ true ↦ got fs r | false ↦ bad ]) bad
+        → judged version1 (restOf b fs r) ≡ unsound
+    go true p q = absurd (let z : _≡_ {A = ℕ} 0 1 = cc (q) in omega arith)
+    go false p q = unacceptable b fs (readPairs (ones (b - sumOf fileBlocks fs)) (version1 .heights) 2 r) p
+stopped b bad e = refl
+
+pub all-read : (y : Read (List File)) (fs : List File) (r : List ℕ) → allAccepted y ≡ got fs r
+    → (y ≡ got fs r) × (every acceptable fs ≡ true)
+unfolding allAccepted
+all-read (got gs s) fs r e = go (every acceptable gs) refl e
+  where
+    go : (t : Bool) → every acceptable gs ≡ t
+        → _≡_ {A = Read (List File)} (elim t as (λ _. Read (List File)) [ true ↦ got gs s | false ↦ bad ])
+        (got fs r)
+        → (_≡_ {A = Read (List File)} (got gs s) (got fs r)) × (every acceptable fs ≡ true)
+    go true p q = (let z : gs ≡ fs = cc (q) in (q, ap (every acceptable) (sym z) ∙ p))
+    go false p q = absurd (let z : _≡_ {A = ℕ} 0 1 = cc (q) in omega arith)
+all-read bad fs r e = absurd (let z : _≡_ {A = ℕ} 0 1 = cc (e) in omega arith)

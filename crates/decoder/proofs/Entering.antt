@@ -1,0 +1,165 @@
+-- An entry at the front of the bytes: two fields and the pairs of a file. Assumes nothing.
+use mathlib.Core.Bool.{false, true}
+use mathlib.Core.List.{List, [], _∷_}
+use mathlib.Core.Path.{_∙_, _≡_, ap, ap₂, refl, sym}
+use Prim.Native.Nat.{_*_, _+_, _<_, _≤_, ℕ}
+use native.Mathlib.Omega.{arith}
+use lib.Count.{ones}
+use lib.ListN.{drop, length}
+use borrow.Author.Tests.{eq-eqb, le-leb, lt-leb, ne-eqb}
+use Rattle.catalogue.specs.Reading.{Read, bad, fileRead, got, readEntry, readField, readFrom, readPairs, then}
+use Rattle.catalogue.specs.Version.{version1}
+use Rattle.decoder.proofs.Files.{file-parts, file-read, file-refused}
+use Rattle.decoder.proofs.Runs.{pairs-bad, pairs-got}
+use Rattle.decoder.specs.Entries.{EntryAt, NoFile, accepted, entryIn, isFile}
+use Rattle.decoder.specs.Fields.{FieldAt, PairsAt}
+use Rattle.decoder.specs.Pieces.{Sorts, inOrder}
+use Rattle.decoder.specs.declared.EntryRead.{EntryRead}
+use Rattle.decoder.specs.declared.PairsRead.{PairsRead}
+use Rattle.layout.proofs.Lists.{sum-sort}
+use Rattle.layout.specs.Layout.{File, blockCount, byLength}
+use Rattle.section.proofs.Nested.{inside}
+use Rattle.section.specs.Sections.{lengthOf}
+use Rattle.section.specs.declared.Section.{Section}
+use Rattle.table.specs.Tables.{fileOf, freeOf}
+use Rattle.table.specs.declared.Entry.{Entry}
+
+entry-of-few : (l : List ℕ) → length l < 4 → readEntry (version1 .heights) 2 l ≡ bad
+unfolding readEntry readFrom
+entry-of-few [] h = refl
+entry-of-few (a ∷ []) h = refl
+entry-of-few (a ∷ b ∷ []) h = refl
+entry-of-few (a ∷ b ∷ c ∷ []) h = refl
+entry-of-few (a ∷ b ∷ c ∷ d ∷ l) h = absurd (omega arith)
+
+entry-at : (s : List ℕ) (i n : ℕ) (x : Read (List Section)) → FieldAt s 0 i → FieldAt s 2 n
+    → readPairs (ones n) (version1 .heights) 2 (drop 4 s) ≡ x
+    → readEntry (version1 .heights) 2 s ≡ then x λ l r. fileRead i n l r
+unfolding readEntry
+entry-at s i n x p q e =
+    ap (λ z. then z
+    λ i r. then (readField 2 r)
+    λ n r′. then (readPairs (ones n) (version1 .heights) 2 r′) λ l r″. fileRead i n l r″)
+    (p .equal)
+    ∙ (ap (λ z. then z λ n r′. then (readPairs (ones n) (version1 .heights) 2 r′) λ l r″. fileRead i n l r″)
+    (q .equal)
+    ∙ ap (λ z. then z λ l r″. fileRead i n l r″) e)
+
+no-entry-at : (s : List ℕ) (e : EntryRead) → accepted (readEntry (version1 .heights) 2 s) ≡ bad → NoFile e
+    → EntryAt s e
+unfolding entryIn
+no-entry-at s e q k =
+    record {
+      meaning =
+          q
+          ∙ sym
+          (ap (λ t. elim t as (λ _. Read File) [ true ↦ got (fileOf (e .entry)) (drop (e .size) s) | false ↦ bad ])
+          (k .0));
+      pages = k .1 ∙ sym (ap blockCount (k .4));
+      most = omega (arith, k .1);
+      places = omega (arith, k .3);
+      inside = omega (arith, k .2);
+    }
+
+pub short-entry : (s : List ℕ) (e : EntryRead) → length s < 4
+    → NoFile e
+    → EntryAt s e
+unfolding accepted
+short-entry s e h k = no-entry-at s e (ap accepted (entry-of-few s h)) k
+
+module _ (s : List ℕ) (i n : ℕ) (p : FieldAt s 0 i) (q : FieldAt s 2 n) (x : PairsRead)
+    (y : PairsAt s 4 (ones n) x) where
+  pub unread-entry : (e : EntryRead) → x .ok ≡ false
+      → NoFile e
+      → EntryAt s e
+  unfolding accepted
+  unread-entry e o k =
+      no-entry-at s e
+      (ap accepted
+      (entry-at s i n bad p q
+      (y .meaning ∙ pairs-bad x _ o)))
+      k
+
+  pairs-read : x .ok ≡ true
+      → accepted (readEntry (version1 .heights) 2 s)
+      ≡ accepted (fileRead i n (freeOf (x .list)) (drop (4 + 4 * ones n) s))
+  pairs-read o =
+      ap accepted
+      (entry-at s i n (got (freeOf (x .list)) (drop (4 + 4 * ones n) s)) p q
+      (y .meaning ∙ pairs-got x _ o))
+
+  module _ (o : x .ok ≡ true) where
+    counted : length (freeOf (x .list)) ≡ ones n
+    counted = y .exact ∙ y .count o
+
+    pub refused-entry : (e : EntryRead) → isFile i n (freeOf (x .list)) ≡ false
+        → NoFile e
+        → EntryAt s e
+    refused-entry e f k =
+        no-entry-at s e
+        (pairs-read o ∙ file-refused i n (freeOf (x .list)) (drop (4 + 4 * ones n) s) counted (p .most) f) k
+
+    pub some-entry : (e : Entry) → isFile i n (freeOf (x .list)) ≡ true → Sorts i (x .list) e
+        → EntryAt s (record { ok = true; n = n; size = 4 + 4 * ones n; entry = e })
+    unfolding entryIn
+    some-entry e f w =
+        let d = file-parts i n (freeOf (x .list)) f in
+        record {
+          meaning =
+              pairs-read o
+              ∙ (file-read i n (freeOf (x .list)) (drop (4 + 4 * ones n) s) counted (p .most) f
+              ∙ ap₂ (λ j l. got (record { id = j; pieces = l }) (drop (4 + 4 * ones n) s)) (sym (w .id))
+              (sym (w .list)));
+          pages =
+              sym (d .1)
+              ∙ (sym (sum-sort lengthOf byLength (freeOf (x .list))) ∙ sym (ap blockCount (w .list)));
+          most = q .most;
+          places = omega (arith, w .count, y .exact, d .0);
+          inside = y .inside o;
+        }
+
+    pub few-pieces : isFile i n (freeOf (x .list)) ≡ true → x .list .count ≤ 13
+    few-pieces f = omega (arith, y .exact, file-parts i n (freeOf (x .list)) f .0)
+
+-- ---- what the code tests
+
+module _ (i n : ℕ) (l : List Section) where
+  pub many-pieces : 13 < length l → isFile i n l ≡ false
+  unfolding isFile
+  many-pieces h = simp (lt-leb (length l) 13 h)
+
+  pub no-id : length l ≤ 13 → i ≡ 0 → isFile i n l ≡ false
+  unfolding isFile
+  no-id h e = simp (le-leb (length l) 13 h, lt-leb 1 i (omega arith))
+
+  pub no-blocks : length l ≤ 13 → (i ≡ 0 → ⊥) → n ≡ 0 → isFile i n l ≡ false
+  unfolding isFile
+  no-blocks h a e = simp (le-leb (length l) 13 h, le-leb 1 i (omega (arith, a)), lt-leb 1 n (omega arith))
+
+  pub other-sum : length l ≤ 13 → (i ≡ 0 → ⊥) → (n ≡ 0 → ⊥) → (blockCount l ≡ n → ⊥) → isFile i n l ≡ false
+  unfolding isFile
+  other-sum h a b e =
+      simp (
+        le-leb (length l) 13 h,
+        le-leb 1 i (omega (arith, a)),
+        le-leb 1 n (omega (arith, b)),
+        ne-eqb (blockCount l) n e,
+      )
+
+  pub order-left : length l ≤ 13 → (i ≡ 0 → ⊥) → (n ≡ 0 → ⊥) → blockCount l ≡ n → isFile i n l ≡ inOrder l
+  unfolding isFile
+  order-left h a b e =
+      simp (
+        le-leb (length l) 13 h,
+        le-leb 1 i (omega (arith, a)),
+        le-leb 1 n (omega (arith, b)),
+        eq-eqb (blockCount l) n e,
+      )
+
+pub entry-got : (e : EntryRead) (r : List ℕ) → e .ok ≡ true → entryIn e r ≡ got (fileOf (e .entry)) r
+unfolding entryIn
+entry-got e r o = rw o
+
+pub entry-bad : (e : EntryRead) (r : List ℕ) → e .ok ≡ false → entryIn e r ≡ bad
+unfolding entryIn
+entry-bad e r o = rw o

@@ -1,0 +1,184 @@
+-- The pairs that make a file: what the code tests is what the definition reads and what soundness asks. Assumes
+-- nothing.
+use mathlib.Core.Bool.{Bool, _&&_, false, not, true}
+use mathlib.Core.List.{List}
+use mathlib.Core.Path.{_∙_, _≡_, ap, refl, sym}
+use Prim.Native.Nat.{_<_, _≤_, ℕ}
+use native.Mathlib.Nat.{le-of-lt, le-trans}
+use native.Mathlib.Omega.{arith}
+use lib.Count.{ones}
+use lib.Dec.{eqb, leb, ltb}
+use lib.ListN.{length}
+use lib.Pow.{pow-mono}
+use borrow.Author.Tests.{eq-eqb, eqb-false, eqb-true, le-leb, leb-false, leb-true, lt-ltb, ltb-true, ne-eqb}
+use borrow.Author.Tests.{not-true}
+use Rattle.catalogue.proofs.Tests.{and-intro, pairs-pairwise, pairwise-pairs}
+use Rattle.catalogue.specs.Reading.{Read, bad, fileRead, got, pairwise}
+use Rattle.decoder.proofs.Points.{false-true, is-false}
+use Rattle.decoder.specs.Entries.{acceptable, accepted, isFile}
+use Rattle.decoder.specs.Fields.{fieldValues}
+use Rattle.decoder.specs.Pieces.{inOrder, inTurn}
+use Rattle.layout.proofs.Lists.{each-and, length-sort, pairwise-imp, sort-sorted, sum-sort}
+use Rattle.layout.proofs.Ones.{at-most-one-distinct, distinct-at-most-one}
+use Rattle.layout.proofs.Splitting.{AtMostOne}
+use Rattle.layout.specs.Layout.{File, blockCount, byLength, fileBlocks, ofHeight}
+use Rattle.layout.specs.Lists.{Pairwise, next, none, sortBy}
+use Rattle.layout.specs.Sound.{greatestId}
+use Rattle.section.proofs.Booleans.{and-true}
+use Rattle.section.specs.Sections.{lengthOf}
+use Rattle.section.specs.declared.Section.{Section}
+
+-- ---- the order of the pairs, and page order
+
+abbrev pub rising : List Section → Bool
+rising l = pairwise (λ (s t : Section). ltb (s .first) (t .first)) l
+
+abbrev pub distinct : List Section → Bool
+distinct l = pairwise (λ (s t : Section). not (eqb (lengthOf s) (lengthOf t))) l
+
+abbrev pub falling : List Section → Bool
+falling l = pairwise (λ (s t : Section). ltb (lengthOf t) (lengthOf s)) l
+
+pairwise-and {ℓ κ ν} : {A : Type ℓ} {R : A → A → Type κ} {S : A → A → Type ν} {l : List A} → Pairwise R l
+    → Pairwise S l
+    → Pairwise (λ a b. R a b × S a b) l
+pairwise-and none q = none
+pairwise-and (next e p) (next f q) = next (each-and e f) (pairwise-and p q)
+
+pub order-rises : (l : List Section) → inOrder l ≡ true → rising l ≡ true
+unfolding inTurn
+order-rises l e =
+    pairs-pairwise _
+    (pairwise-imp (λ s t q. and-true (ltb (s .first) (t .first)) (not (eqb (lengthOf s) (lengthOf t))) q .0)
+    (pairwise-pairs inTurn l e))
+
+pub order-distinct : (l : List Section) → inOrder l ≡ true → distinct l ≡ true
+unfolding inTurn
+order-distinct l e =
+    pairs-pairwise _
+    (pairwise-imp (λ s t q. and-true (ltb (s .first) (t .first)) (not (eqb (lengthOf s) (lengthOf t))) q .1)
+    (pairwise-pairs inTurn l e))
+
+pub order-both : (l : List Section) → rising l ≡ true → distinct l ≡ true → inOrder l ≡ true
+unfolding inTurn
+order-both l p q =
+    pairs-pairwise inTurn
+    (pairwise-imp (λ s t w. and-intro (w .0) (w .1)) (pairwise-and (pairwise-pairs _ l p) (pairwise-pairs _ l q)))
+
+abbrev Unlike : Section → Section → Type 0
+Unlike s t = lengthOf s ≡ lengthOf t → ⊥
+
+by-length-sorted : (l : List Section)
+    → Pairwise (λ (s t : Section). t .height .value ≤ s .height .value) (sortBy byLength l)
+by-length-sorted =
+    sort-sorted byLength (λ s t. t .height .value ≤ s .height .value)
+    (λ s t. leb-true (t .height .value) (s .height .value))
+    (λ s t e. le-of-lt (leb-false (t .height .value) (s .height .value) e)) (λ s t u p q. le-trans q p)
+
+unlike-of : (l : List Section) → distinct l ≡ true → Pairwise Unlike l
+unlike-of l e =
+    pairwise-imp (λ s t q. eqb-false (lengthOf s) (lengthOf t) (not-true (eqb (lengthOf s) (lengthOf t)) q))
+    (pairwise-pairs _ l e)
+
+pub distinct-of : (l : List Section) → Pairwise Unlike l → distinct l ≡ true
+distinct-of l p =
+    pairs-pairwise _ (pairwise-imp (λ s t q. ap not (ne-eqb (lengthOf s) (lengthOf t) q)) p)
+
+-- pairs of distinct lengths fall strictly in page order
+pub distinct-falls : (l : List Section) → distinct l ≡ true → falling (sortBy byLength l) ≡ true
+distinct-falls l e =
+    pairs-pairwise _
+    (pairwise-imp
+    (λ s t w. lt-ltb (lengthOf t) (lengthOf s)
+    (omega (arith, pow-mono {i = t .height .value} {j = s .height .value} (w .0), w .1)))
+    (pairwise-and (by-length-sorted l) (at-most-one-distinct (sortBy byLength l) thin)))
+  where
+    thin : AtMostOne (sortBy byLength l)
+    thin h = omega (arith, distinct-at-most-one (unlike-of l e) h, sum-sort (ofHeight h) byLength l)
+
+pub falls-distinct : (l : List Section) → falling (sortBy byLength l) ≡ true → distinct l ≡ true
+falls-distinct l e = distinct-of l (at-most-one-distinct l thin)
+  where
+    unlike : Pairwise Unlike (sortBy byLength l)
+    unlike =
+        pairwise-imp (λ s t q z. omega (arith, ltb-true (lengthOf t) (lengthOf s) q, z))
+        (pairwise-pairs _ (sortBy byLength l) e)
+
+    thin : AtMostOne l
+    thin h = omega (arith, distinct-at-most-one unlike h, sum-sort (ofHeight h) byLength l)
+
+-- ---- a file
+
+pub file-parts : (i n : ℕ) (l : List Section) → isFile i n l ≡ true
+    → (length l ≤ 13) × (blockCount l ≡ n) × (inOrder l ≡ true)
+unfolding isFile
+file-parts i n l e =
+    let a = and-true (leb (length l) 13) _ e in
+    let b = and-true (leb 1 i) _ (a .1) in
+    let c = and-true (leb 1 n) _ (b .1) in
+    let d = and-true (eqb (blockCount l) n) _ (c .1) in
+    (leb-true (length l) 13 (a .0), eqb-true (blockCount l) n (d .0), d .1)
+
+module _ (i n : ℕ) (l : List Section) (r : List ℕ) (counted : length l ≡ ones n) (small : i < fieldValues) where
+  abbrev made : File
+  made = record { id = i; pieces = sortBy byLength l }
+
+  blocks-made : fileBlocks made ≡ blockCount l
+  blocks-made = sum-sort lengthOf byLength l
+
+  size-made : length (sortBy byLength l) ≡ length l
+  size-made = length-sort byLength l
+
+  is-acceptable : isFile i n l ≡ true → acceptable made ≡ true
+  unfolding isFile acceptable
+  is-acceptable e =
+      let a = and-true _ _ e in
+      let b = and-true (leb 1 i) _ (a .1) in
+      let c = and-true _ _ (b .1) in
+      let d = and-true _ _ (c .1) in
+      let sum = eqb-true (blockCount l) n (d .0) in
+      let all : fileBlocks made ≡ n = blocks-made ∙ sum in
+      let few : length l ≤ 13 = leb-true (length l) 13 (a .0) in
+      let some : 1 ≤ n = leb-true 1 n (c .0) in
+      and-intro (le-leb (length (made .pieces)) 13 (omega (arith, size-made)))
+      (and-intro (b .0)
+      (and-intro (le-leb i 65535 (omega arith))
+      (and-intro (le-leb 1 (fileBlocks made) (omega arith))
+      (and-intro (distinct-falls l (order-distinct l (d .1)))
+      (eq-eqb (length (made .pieces)) (ones (fileBlocks made)) (size-made ∙ (counted ∙ sym (ap ones all))))))))
+
+  acceptable-is : eqb (blockCount l) n && rising l ≡ true → acceptable made ≡ true → isFile i n l ≡ true
+  unfolding isFile acceptable
+  acceptable-is t e =
+      let s = and-true _ _ t in
+      let a = and-true _ _ e in
+      let b = and-true (leb 1 i) _ (a .1) in
+      let c = and-true (leb i greatestId) _ (b .1) in
+      let d = and-true _ _ (c .1) in
+      let f = and-true (falling (made .pieces)) (eqb (length (made .pieces)) (ones (fileBlocks made))) (d .1) in
+      let sum = eqb-true (blockCount l) n (s .0) in
+      let few : length (made .pieces) ≤ 13 = leb-true (length (made .pieces)) 13 (a .0) in
+      let some : 1 ≤ fileBlocks made = leb-true 1 (fileBlocks made) (d .0) in
+      and-intro (le-leb (length l) 13 (omega (arith, size-made)))
+      (and-intro (b .0)
+      (and-intro (le-leb 1 n (omega (arith, blocks-made)))
+      (and-intro (s .0) (order-both l (s .1) (falls-distinct l (f .0))))))
+
+  pub file-read : isFile i n l ≡ true → accepted (fileRead i n l r) ≡ got made r
+  unfolding fileRead accepted
+  file-read e =
+      let d = file-parts i n l e in
+      ap (λ t. accepted (elim t as (λ _. Read File) [ true ↦ got made r | false ↦ bad ]))
+      (and-intro (eq-eqb (blockCount l) n (d .1)) (order-rises l (d .2)))
+      ∙ ap (λ t. elim t as (λ _. Read File) [ true ↦ got made r | false ↦ bad ]) (is-acceptable e)
+
+  pub file-refused : isFile i n l ≡ false → accepted (fileRead i n l r) ≡ bad
+  unfolding fileRead accepted
+  file-refused e = go (eqb (blockCount l) n && rising l) refl
+    where
+      go : (t : Bool) → eqb (blockCount l) n && rising l ≡ t
+          → accepted (elim t as (λ _. Read File) [ true ↦ got made r | false ↦ bad ]) ≡ bad
+      go true q =
+          ap (λ u. elim u as (λ _. Read File) [ true ↦ got made r | false ↦ bad ])
+          (is-false (acceptable made) (λ u. false-true (sym e ∙ acceptable-is q u)))
+      go false q = refl

@@ -1,0 +1,81 @@
+-- Pieces put at the end of a list, one after another. Assumes nothing.
+use mathlib.Core.List.{List, [], _++_, _∷_, append-assoc, append-nil, map}
+use mathlib.Core.Path.{_∙_, _≡_, ap, refl, subst, sym}
+use Prim.Native.Nat.{_+_, _<_, _≤_, suc, zero, ℕ}
+use native.Mathlib.Numerals.{add-one}
+use native.Mathlib.Omega.{arith}
+use lib.ListN.{getD, length, set, take}
+use lib.Seq.{getD-take, length-take-le, take-suc}
+use Rattle.decoder.proofs.EntryRuns.{filesTo}
+use Rattle.decoder.proofs.Points.{blank}
+use Rattle.decoder.proofs.Runs.{pushed}
+use Rattle.layout.proofs.Lists.{map-append}
+use Rattle.layout.specs.Layout.{File, filePieces}
+use Rattle.layout.specs.Lists.{Each, done, more}
+use Rattle.section.specs.declared.Section.{Section}
+use Rattle.table.specs.Tables.{fileOf, piecesIn}
+use Rattle.table.specs.declared.Entry.{Entry}
+
+pub join-start : (items pieces : List Section) (start : ℕ)
+    → take (start + 0) items ≡ take start items ++ take 0 pieces
+join-start items pieces start = ap (λ k. take k items) same ∙ sym (append-nil (take start items))
+  where
+    same : start + 0 ≡ start
+    same = omega arith
+
+pub join-more : (items old pieces : List Section) (start i : ℕ) → start + i < length items → i < length pieces
+    → take (start + i) items ≡ take start old ++ take i pieces
+    → take (start + (i + 1)) (set items (start + i) (getD pieces i blank)) ≡ take start old ++ take (i + 1) pieces
+join-more items old pieces start i h l e =
+    ap (λ k. take k (set items (start + i) (getD pieces i blank))) same
+    ∙ (pushed items (start + i) (getD pieces i blank) h
+    ∙ (ap (λ z. z ++ (getD pieces i blank ∷ [])) e
+    ∙ (append-assoc (take start old) (take i pieces) (getD pieces i blank ∷ [])
+    ∙ ap (λ z. take start old ++ z) (sym (ap (λ k. take k pieces) (add-one i) ∙ take-suc pieces i blank l)))))
+  where
+    same : start + (i + 1) ≡ start + i + 1
+    same = omega arith
+
+pub join-end : (items old pieces : List Section) (start i n : ℕ) → i ≡ n
+    → take (start + i) items ≡ take start old ++ take i pieces
+    → take (start + n) items ≡ take start old ++ take n pieces
+join-end items old pieces start i n e q = rw e at q
+
+pub each-at {ℓ κ} : {A : Type ℓ} {P : A → Type κ} (d : A) {l : List A} → Each P l → (i : ℕ) → i < length l
+    → P (getD l i d)
+each-at d done i h = absurd (omega arith)
+each-at d (more p e) zero h = p
+each-at d (more p e) (suc i) h = each-at d e i (omega arith)
+
+pub each-placed {ℓ κ} : {A : Type ℓ} {P : A → Type κ} (d : A) (l : List A) (m i : ℕ) → m ≤ length l → i < m
+    → Each P (take m l)
+    → P (getD l i d)
+each-placed {P = P} d l m i h k e =
+    subst P (getD-take m l i d k) (each-at d e i (omega (arith, length-take-le m l h)))
+
+-- what stands where there is no file
+abbrev pub blankEntry : Entry
+blankEntry = record { id = 0; count = 0; items = [] }
+
+pieces-append : (fs gs : List File) → filePieces (fs ++ gs) ≡ filePieces fs ++ filePieces gs
+unfolding filePieces
+pieces-append [] gs = refl
+pieces-append (f ∷ fs) gs =
+    ap (λ z. f .pieces ++ z) (pieces-append fs gs) ∙ sym (append-assoc (f .pieces) (filePieces fs) (filePieces gs))
+
+one-file : (f : File) → filePieces (f ∷ []) ≡ f .pieces
+unfolding filePieces
+one-file f = append-nil (f .pieces)
+
+pub no-file-pieces : (files : List Entry) → filePieces (filesTo 0 files) ≡ []
+unfolding filePieces
+no-file-pieces files = refl
+
+pub file-pieces-more : (files : List Entry) (i : ℕ) → i < length files
+    → filePieces (filesTo (i + 1) files) ≡ filePieces (filesTo i files) ++ piecesIn (getD files i blankEntry)
+file-pieces-more files i h =
+    ap (λ k. filePieces (filesTo k files)) (add-one i)
+    ∙ (ap (λ z. filePieces (map fileOf z)) (take-suc files i blankEntry h)
+    ∙ (ap filePieces (map-append fileOf (take i files) (getD files i blankEntry ∷ []))
+    ∙ (pieces-append (filesTo i files) (fileOf (getD files i blankEntry) ∷ [])
+    ∙ ap (λ z. filePieces (filesTo i files) ++ z) (one-file (fileOf (getD files i blankEntry))))))

@@ -1,0 +1,168 @@
+-- `decoder::checks::any_shared` meets its contract: every two pieces before `i`, and `i` up to `j`. Assumes nothing.
+use mathlib.Core.Path.{_≡_, _∙_, sym, ap, refl}
+use mathlib.Core.Bool.{false, not}
+use Prim.Native.Nat.{_-_, _≤_, _<_}
+use native.Mathlib.Omega.{arith}
+use lib.ListN.{length, take}
+use borrow.Author.Needs.{needs}
+use Rattle.section.specs.Sections.{Addressable}
+use Rattle.layout.specs.Lists.{Each}
+use Rattle.decoder.specs.Checking.{apart, gatheredPlaces, piecesOf}
+use Rattle.decoder.proofs.Points.{Row, Rows, blank, length-of-mapped, pair-fails, row-more, row-start}
+use Rattle.decoder.proofs.Points.{rows-end, rows-more, rows-none}
+use Rattle.decoder.proofs.Joined.{each-placed}
+use Rattle.decoder.proofs.checks.any_shared.Statement.{statement}
+use Rattle.decoder.proofs.checks.any_shared.Tie as tie
+
+abbrev Inv-loop : tie.InvT-loop
+Inv-loop count items found₀ i a j₀ found j =
+    (found ≡ false) × (count ≤ gatheredPlaces) × (length items ≡ gatheredPlaces)
+    × Each Addressable (take count items)
+    × (i < count) × (i < j) × (j ≤ count) × Rows items count blank apart i × Row items blank apart i j
+
+abbrev μ-loop : tie.MeasureT-loop
+μ-loop count items found₀ i a j₀ found j = count - j
+
+abbrev Inv-pairs : tie.InvT-pairs
+Inv-pairs count items found₀ i₀ found i =
+    (found ≡ false) × (count ≤ gatheredPlaces) × (length items ≡ gatheredPlaces)
+    × Each Addressable (take count items)
+    × (i ≤ count) × Rows items count blank apart i
+
+abbrev μ-pairs : tie.MeasureT-pairs
+μ-pairs count items found₀ i₀ found i = count - i
+
+pairs-holds : tie.Need-pairs-holds Inv-loop μ-loop Inv-pairs μ-pairs
+unfolding piecesOf
+pairs-holds c =
+    let a = c .before .args .list in
+    let e : length (a .items) ≡ gatheredPlaces = search (needs, length-of-mapped) in
+    (refl, c .before .pre .0, e, c .before .pre .1, omega arith, rows-none (a .items) (a .count) blank apart)
+
+mul-a : tie.Need-mul-a Inv-loop μ-loop Inv-pairs μ-pairs
+mul-a c = search needs
+
+array-copy-out-a : tie.Need-array-copy-out-a Inv-loop μ-loop Inv-pairs μ-pairs
+array-copy-out-a c = search needs
+
+add-j : tie.Need-add-j Inv-loop μ-loop Inv-pairs μ-pairs
+add-j c = search needs
+
+loop-holds : tie.Need-loop-holds Inv-loop μ-loop Inv-pairs μ-pairs
+loop-holds c =
+    let a = c .before .before .before .before .args .list in
+    let v = c .before .before .pairs .inv in (
+      v .0,
+      v .1,
+      v .2,
+      v .3,
+      c .before .pairs-test .taken,
+      omega arith,
+      omega arith,
+      v .5,
+      row-start (a .items) (a .count) blank apart (c .before .before .pairs .i),
+    )
+
+mul-b : tie.Need-mul-b Inv-loop μ-loop Inv-pairs μ-pairs
+mul-b c = search needs
+
+array-copy-out-b : tie.Need-array-copy-out-b Inv-loop μ-loop Inv-pairs μ-pairs
+array-copy-out-b c = search needs
+
+shares-block-requires : tie.Need-shares-block-requires Inv-loop μ-loop Inv-pairs μ-pairs
+shares-block-requires c κs =
+    let a = c .before .before .before .before .before .before .before .args .list in
+    let v = c .before .before .loop .inv in (
+      each-placed blank (a .items) (a .count) (c .before .before .before .before .before .pairs .i)
+          (omega (arith, v .1, v .2)) (v .4) (v .3),
+      each-placed blank (a .items) (a .count) (c .before .before .loop .j) (omega (arith, v .1, v .2))
+          (c .before .loop-test .taken) (v .3),
+    )
+
+add-j-2 : tie.Need-add-j-2 Inv-loop μ-loop Inv-pairs μ-pairs
+add-j-2 c = search needs
+
+loop-less : tie.Need-loop-less Inv-loop μ-loop Inv-pairs μ-pairs
+loop-less c = search needs
+
+loop-again : tie.Need-loop-again Inv-loop μ-loop Inv-pairs μ-pairs
+loop-again c =
+    let a = c .before .before .before .before .before .before .before .before .before .args .list in
+    let v = c .before .before .before .before .loop .inv in (
+      v .0,
+      v .1,
+      v .2,
+      v .3,
+      v .4,
+      omega arith,
+      omega arith,
+      v .7,
+      row-more (a .items) (a .count) blank apart
+          (c .before .before .before .before .before .before .before .pairs .i)
+          (c .before .before .before .before .loop .j) (v .8)
+          (ap not (sym (c .before .shares-block .ensures) ∙ c .if1 .left)),
+    )
+
+add-i : tie.Need-add-i Inv-loop μ-loop Inv-pairs μ-pairs
+add-i c = search needs
+
+pairs-less : tie.Need-pairs-less Inv-loop μ-loop Inv-pairs μ-pairs
+pairs-less c = search needs
+
+pairs-again : tie.Need-pairs-again Inv-loop μ-loop Inv-pairs μ-pairs
+pairs-again c =
+    let a = c .before .before .before .before .before .before .args .list in
+    let v = c .before .loop .inv in (
+      v .0,
+      v .1,
+      v .2,
+      v .3,
+      omega arith,
+      rows-more (a .items) (a .count) blank apart (c .before .before .before .before .pairs .i) (c .before .loop .j)
+          (c .loop-test .left) (v .7) (v .8),
+    )
+
+returns : tie.Need-returns Inv-loop μ-loop Inv-pairs μ-pairs
+unfolding piecesOf
+returns c =
+    let a = c .before .before .before .args .list in
+    let v = c .before .pairs .inv in
+    v .0
+    ∙ sym (ap not (rows-end (a .items) (a .count) blank (omega (arith, v .1, v .2)) apart (c .before .pairs .i)
+    (c .pairs-test .left) (v .5)))
+
+returns-2 : tie.Need-returns-2 Inv-loop μ-loop Inv-pairs μ-pairs
+unfolding piecesOf
+returns-2 c =
+    let a = c .before .before .before .before .before .before .before .before .before .args .list in
+    let v = c .before .before .before .before .loop .inv in
+    sym (ap not
+    (pair-fails (a .items) (a .count) blank (omega (arith, v .1, v .2)) apart
+    (c .before .before .before .before .before .before .before .pairs .i)
+    (c .before .before .before .before .loop .j) (v .5) (c .before .before .before .loop-test .taken)
+    (ap not (sym (c .before .shares-block .ensures) ∙ c .if1 .taken))))
+
+pub any-shared-spec : {M : Type 1} → statement M
+any-shared-spec =
+    tie.close
+    (tie.spec
+    Inv-loop
+    μ-loop
+    Inv-pairs
+    μ-pairs
+    pairs-holds
+    mul-a
+    array-copy-out-a
+    add-j
+    loop-holds
+    mul-b
+    array-copy-out-b
+    shares-block-requires
+    add-j-2
+    loop-less
+    loop-again
+    add-i
+    pairs-less
+    pairs-again
+    returns
+    returns-2)

@@ -1,0 +1,106 @@
+-- `decoder::entries::read_entry` meets its contract: a file that a sound layout can have, or none. Assumes nothing.
+use mathlib.Core.Path.{_∙_, sym}
+use native.Mathlib.Omega.{arith}
+use borrow.Author.Needs.{needs}
+use borrow.Author.Tests.{not-true, not-false}
+use lib.Count.{ones-le}
+use Rattle.decoder.proofs.Entering.{few-pieces, refused-entry, short-entry, some-entry, unread-entry}
+use Rattle.decoder.proofs.entries.read_entry.Statement.{statement}
+use Rattle.decoder.proofs.entries.read_entry.Tie as tie
+
+no-file-requires : tie.Need-no-file-requires
+no-file-requires c κs = search needs
+
+returns : tie.Need-returns
+returns c = short-entry _ _ (c .before .if1 .taken) (c .no-file .ensures)
+
+read-field-requires : tie.Need-read-field-requires
+read-field-requires c κs = search needs
+
+read-field-requires-2 : tie.Need-read-field-requires-2
+read-field-requires-2 c κs = search needs
+
+cast-count : tie.Need-cast-count
+cast-count c = omega (arith, ones-le 16 (c .read-field2 .result) (c .read-field2 .ensures .most))
+
+read-pairs-requires : tie.Need-read-pairs-requires
+read-pairs-requires c κs = (omega arith, ones-le 16 (c .read-field2 .result) (c .read-field2 .ensures .most))
+
+no-file-requires-2 : tie.Need-no-file-requires-2
+no-file-requires-2 c κs = search needs
+
+returns-2 : tie.Need-returns-2
+returns-2 c =
+    unread-entry (c .before .before .before .before .before .before .before .before .args .s .now) _ _
+    (c .before .before .before .before .before .read-field .ensures)
+    (c .before .before .before .before .read-field2 .ensures) _ (c .before .before .before .read-pairs .ensures) _
+    (not-true _ (c .before .if2 .taken)) (c .no-file2 .ensures)
+
+is-file-requires : tie.Need-is-file-requires
+is-file-requires c κs = search needs
+
+no-file-requires-3 : tie.Need-no-file-requires-3
+no-file-requires-3 c κs = search needs
+
+returns-3 : tie.Need-returns-3
+returns-3 c =
+    refused-entry
+    (c .before .before .before .before .before .before .before .before .before .before .before .args .s .now) _ _
+    (c .before .before .before .before .before .before .before .before .read-field .ensures)
+    (c .before .before .before .before .before .before .before .read-field2 .ensures) _
+    (c .before .before .before .before .before .before .read-pairs .ensures)
+    (not-false _ (c .before .before .before .before .if2 .left)) _
+    (sym (c .before .before .is-file .ensures) ∙ not-true _ (c .before .if3 .taken)) (c .no-file3 .ensures)
+
+sorted-requires : tie.Need-sorted-requires
+sorted-requires c κs =
+    few-pieces (c .before .before .before .before .before .before .before .before .before .before .args .s .now) _ _
+    (c .before .before .before .before .before .before .before .read-field .ensures)
+    (c .before .before .before .before .before .before .read-field2 .ensures) _
+    (c .before .before .before .before .before .read-pairs .ensures)
+    (not-false _ (c .before .before .before .if2 .left))
+    (sym (c .before .is-file .ensures) ∙ not-false _ (c .if3 .left))
+
+mul-t8 : tie.Need-mul-t8
+mul-t8 c = omega (
+  arith,
+  ones-le 16 (c .before .before .before .before .before .before .before .read-field2 .result)
+      (c .before .before .before .before .before .before .before .read-field2 .ensures .most),
+)
+
+add-t12 : tie.Need-add-t12
+add-t12 c = omega (
+  arith,
+  ones-le 16 (c .before .before .before .before .before .before .before .read-field2 .result)
+      (c .before .before .before .before .before .before .before .read-field2 .ensures .most),
+)
+
+returns-4 : tie.Need-returns-4
+returns-4 c =
+    some-entry
+    (c .before .before .before .before .before .before .before .before .before .before .before .args .s .now) _ _
+    (c .before .before .before .before .before .before .before .before .read-field .ensures)
+    (c .before .before .before .before .before .before .before .read-field2 .ensures) _
+    (c .before .before .before .before .before .before .read-pairs .ensures)
+    (not-false _ (c .before .before .before .before .if2 .left)) _
+    (sym (c .before .before .is-file .ensures) ∙ not-false _ (c .before .if3 .left)) (c .sorted .ensures)
+
+pub read-entry-spec : {M : Type 1} → statement M
+read-entry-spec =
+    tie.close
+    (tie.spec
+    no-file-requires
+    returns
+    read-field-requires
+    read-field-requires-2
+    cast-count
+    read-pairs-requires
+    no-file-requires-2
+    returns-2
+    is-file-requires
+    no-file-requires-3
+    returns-3
+    sorted-requires
+    mul-t8
+    add-t12
+    returns-4)

@@ -1,0 +1,74 @@
+-- What reading a file's entry, and all entries, promises. Definitions only.
+use mathlib.Core.Path.{_≡_}
+use mathlib.Core.Bool.{Bool, true, false, _&&_}
+use mathlib.Core.List.{List, [], map}
+use Prim.Native.Nat.{ℕ, _*_, _<_, _≤_}
+use lib.Dec.{leb, eqb}
+use lib.ListN.{length, take, drop}
+use Rattle.section.specs.declared.Section.{Section}
+use Rattle.section.specs.Limits.{mostFiles}
+use Rattle.layout.specs.Lists.{Each, sumOf}
+use Rattle.layout.specs.Layout.{File, blockCount, fileBlocks}
+use Rattle.table.specs.Tables.{InPlaces, fileOf, piecePlaces, piecesIn}
+use Rattle.catalogue.specs.Version.{version1}
+use Rattle.catalogue.specs.Reading.{Read, got, bad, every, soundFile, readEntry, readEntries}
+use Rattle.decoder.specs.Fields.{fieldBytes, fieldValues}
+use Rattle.decoder.specs.Pieces.{inOrder}
+use Rattle.decoder.specs.declared.EntryRead.{EntryRead}
+use Rattle.decoder.specs.declared.FilesRead.{FilesRead}
+
+-- a file that a sound layout can have, in the places of an entry
+unfoldable pub acceptable : File → Bool
+acceptable f = leb (length (f .pieces)) piecePlaces && soundFile f
+
+-- a file that cannot be in a sound layout is not read on
+unfoldable pub accepted : Read File → Read File
+accepted (got f r) = elim (acceptable f) as (λ _. Read File) [ true ↦ got f r | false ↦ bad ]
+accepted bad = bad
+
+unfoldable pub allAccepted : Read (List File) → Read (List File)
+allAccepted (got l r) = elim (every acceptable l) as (λ _. Read (List File)) [ true ↦ got l r | false ↦ bad ]
+allAccepted bad = bad
+
+-- the pairs of a list make a file of id i and n blocks
+unfoldable pub isFile : ℕ → ℕ → List Section → Bool
+isFile i n l = leb (length l) piecePlaces && (leb 1 i && (leb 1 n && (eqb (blockCount l) n && inOrder l)))
+
+unfoldable pub entryIn : EntryRead → List ℕ → Read File
+entryIn e r = elim (e .ok) as (λ _. Read File) [ true ↦ got (fileOf (e .entry)) r | false ↦ bad ]
+
+-- e has no file
+abbrev pub NoFile : EntryRead → Type 0
+NoFile e = (e .ok ≡ false) × (e .n ≡ 0) × (e .size ≡ 0) × (e .entry .count ≡ 0) × (piecesIn (e .entry) ≡ [])
+
+-- e is the entry at the front of the bytes
+pub record EntryAt (s : List ℕ) (e : EntryRead) : Type 0 where
+  pub meaning : accepted (readEntry (version1 .heights) fieldBytes s) ≡ entryIn e (drop (e .size) s)
+  pub pages : e .n ≡ fileBlocks (fileOf (e .entry))
+  pub most : e .n < fieldValues
+  pub places : e .entry .count ≤ piecePlaces
+  pub inside : e .size ≤ length s
+
+-- the files that were read, n of them, before the bytes that are left
+unfoldable pub filesIn : ℕ → FilesRead → List ℕ → Read (List File)
+filesIn n f r =
+    elim (f .ok) as (λ _. Read (List File)) [ true ↦ got (map fileOf (take n (f .files))) r | false ↦ bad ]
+
+-- f has no files
+abbrev pub NoFiles : FilesRead → Type 0
+NoFiles f =
+    (f .ok ≡ false) × (f .sum ≡ 0) × (f .at ≡ 0) × (length (f .files) ≡ mostFiles) × Each InPlaces (f .files)
+
+-- where the entries start
+abbrev pub headerSize : ℕ
+headerSize = 6
+
+-- f has the n files after the header
+pub record FilesAt (s : List ℕ) (n : ℕ) (f : FilesRead) : Type 0 where
+  pub meaning :
+      allAccepted (readEntries n (version1 .heights) fieldBytes (drop headerSize s)) ≡ filesIn n f (drop (f .at) s)
+  pub pages : f .ok ≡ true → f .sum ≡ sumOf fileBlocks (map fileOf (take n (f .files)))
+  pub most : f .sum ≤ fieldValues * mostFiles
+  pub each : Each InPlaces (f .files)
+  pub exact : length (f .files) ≡ mostFiles
+  pub inside : f .at ≤ length s

@@ -1,0 +1,118 @@
+// File entries, each read from its own part of the catalogue.
+use crate::EntryRead;
+use crate::FilesRead;
+use crate::fields::read_field;
+use crate::fields::read_pairs;
+use crate::pieces::in_order;
+use crate::pieces::no_entry;
+use crate::pieces::sorted;
+use table::Free;
+ghost use mathlib.Core.Path.{_≡_};
+ghost use Prim.Native.Nat.{_≤_};
+ghost use lib.ListN.{length};
+ghost use Rattle.section.specs.Limits.{catalogueSize, mostFiles};
+ghost use Rattle.layout.specs.Layout.{blockCount};
+ghost use Rattle.table.specs.Tables.{freeOf, freePlaces};
+ghost use Rattle.decoder.specs.Entries.{EntryAt, FilesAt, NoFile, NoFiles, isFile};
+
+// Whether the pairs of a list, which sum to `sum`, make a file of an id and n blocks.
+fn is_file(id: u32, n: u32, sum: u32, list: Free) -> bool
+    requires { ⌜ (list .count ≤ freePlaces) × (sum ≡ blockCount (freeOf list)) ⌝ }
+    ensures { λ r. ⌜ r ≡ isFile id n (freeOf list) ⌝ }
+{
+    if 13 < list.count {
+        return false;
+    }
+    if id == 0 {
+        return false;
+    }
+    if n == 0 {
+        return false;
+    }
+    if sum != n {
+        return false;
+    }
+    in_order(list)
+}
+
+// No file, of a reading that failed.
+fn no_file() -> EntryRead
+    ensures { λ r. ⌜ NoFile r ⌝ }
+{
+    let entry = no_entry(0);
+    EntryRead {
+        ok: false,
+        n: 0,
+        size: 0,
+        entry,
+    }
+}
+
+// The entry at the front of a part of the catalogue.
+pub fn read_entry(s: &[u8]) -> EntryRead
+    ensures { λ r. ⌜ EntryAt (now (s .entry)) r ⌝ }
+{
+    if s.len() < 4 {
+        return no_file();
+    }
+    let id = read_field(s, 0);
+    let n = read_field(s, 2);
+    let count = u32::count_ones(n) as usize;
+    let pairs = read_pairs(s, 4, count);
+    if !pairs.ok {
+        return no_file();
+    }
+    let list = pairs.list;
+    if !is_file(id, n, pairs.sum, list) {
+        return no_file();
+    }
+    let entry = sorted(id, list);
+    EntryRead {
+        ok: true,
+        n,
+        size: 4 + 4 * count,
+        entry,
+    }
+}
+
+// No files, of a reading that failed.
+fn no_files() -> FilesRead
+    ensures { λ r. ⌜ NoFiles r ⌝ }
+{
+    let entry = no_entry(0);
+    FilesRead {
+        ok: false,
+        sum: 0,
+        at: 0,
+        files: [entry; 64],
+    }
+}
+
+// The entries after the header, `count` of them.
+pub fn read_entries(cat: &[u8], count: usize) -> FilesRead
+    requires { ⌜ (length (now cat) ≡ catalogueSize) × (count ≤ mostFiles) ⌝ }
+    ensures { λ r. ⌜ FilesAt (now (cat .entry)) count r ⌝ }
+{
+    let blank = no_entry(0);
+    let mut files = [blank; 64];
+    let mut at: usize = 6;
+    let mut sum: u32 = 0;
+    let mut i: usize = 0;
+    while i < count {
+        let read = read_entry(&cat[at..]);
+        if !read.ok {
+            return no_files();
+        }
+        let entry = read.entry;
+        files[i] = entry;
+        at += read.size;
+        sum += read.n;
+        i += 1;
+    }
+    FilesRead {
+        ok: true,
+        sum,
+        at,
+        files,
+    }
+}

@@ -1,0 +1,97 @@
+// The whole catalogue, read into a table.
+use crate::TableRead;
+use crate::entries::read_entries;
+use crate::fields::no_section;
+use crate::fields::read_field;
+use crate::fields::read_pairs;
+use crate::pieces::no_entry;
+use table::Free;
+use table::Table;
+ghost use mathlib.Core.Path.{_≡_};
+ghost use mathlib.Core.Bool.{true, false};
+ghost use Prim.Native.Nat.{_-_, _≤_};
+ghost use lib.ListN.{length};
+ghost use Rattle.section.specs.Limits.{catalogueSize};
+ghost use Rattle.decoder.specs.Loading.{Exact, TableAt};
+
+// An empty table.
+pub fn no_table() -> Table
+    ensures { λ r. ⌜ Exact r × (r .free .count ≡ 0) ⌝ }
+{
+    let entry = no_entry(0);
+    let section = no_section();
+    Table {
+        blocks: 0,
+        count: 0,
+        files: [entry; 64],
+        free: Free {
+            count: 0,
+            items: [section; 26],
+        },
+    }
+}
+
+fn unread() -> TableRead
+    ensures { λ r. ⌜ (r .ok ≡ false) × (r .at ≡ 0) × Exact (r .table) ⌝ }
+{
+    let table = no_table();
+    TableRead {
+        ok: false,
+        sum: 0,
+        free: 0,
+        at: 0,
+        table,
+    }
+}
+
+// The blocks of a disk that the files leave, or 0 where they have more.
+fn left_free(blocks: u32, sum: u32) -> u32
+    ensures { λ r. ⌜ (r ≡ blocks - sum) × (r ≤ blocks) ⌝ }
+{
+    if blocks < sum {
+        return 0;
+    }
+    blocks - sum
+}
+
+// The table of the catalogue: the header, the entries and the free pairs.
+pub fn read_table(cat: &[u8]) -> TableRead
+    requires { ⌜ length (now cat) ≡ catalogueSize ⌝ }
+    ensures { λ r. ⌜ TableAt (now (cat .entry)) r ⌝ }
+{
+    let version = read_field(cat, 0);
+    if version != 1 {
+        return unread();
+    }
+    let blocks = read_field(cat, 2);
+    let count = read_field(cat, 4) as usize;
+    if 64 < count {
+        return unread();
+    }
+    let read = read_entries(cat, count);
+    if !read.ok {
+        return unread();
+    }
+    let sum = read.sum;
+    let at = read.at;
+    let ones = u32::count_ones(left_free(blocks, sum)) as usize;
+    let pairs = read_pairs(cat, at, ones);
+    if !pairs.ok {
+        return unread();
+    }
+    let files = read.files;
+    let list = pairs.list;
+    let table = Table {
+        blocks,
+        count,
+        files,
+        free: list,
+    };
+    TableRead {
+        ok: true,
+        sum,
+        free: pairs.sum,
+        at: at + 4 * ones,
+        table,
+    }
+}

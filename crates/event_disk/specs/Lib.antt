@@ -1,0 +1,2 @@
+-- Definitions only: what the seven calls promise beside their outcomes.
+pub mod Limit

@@ -1,0 +1,58 @@
+// The calls that change a catalogue: it is loaded once, and stored once if its table is another one then.
+ghost use mathlib.Core.Path.{_≡_};
+ghost use Rattle.catalogue.specs.Version.{version1};
+ghost use Rattle.manager.specs.Outcomes.{addOutcome, removeOutcome};
+ghost use Rattle.calls.specs.Answers.{replyOf};
+ghost use Rattle.event_disk.specs.Limit.{WithinCarries};
+use calls::Answer;
+use section::Section;
+
+// Adds a file with the pages of `content`, and answers how many there are.
+pub fn add(cat: &mut [u8], disk: &mut [u8], id: u16, content: &[u8]) -> Answer
+    ensures answer { λ r. ⌜ replyOf r
+        ≡ addOutcome version1 id (now (content .entry)) (now (cat .entry)) (now (disk .entry)) .reply ⌝ }
+    ensures catalogue { λ _. ⌜ now (cat .exit)
+        ≡ addOutcome version1 id (now (content .entry)) (now (cat .entry)) (now (disk .entry)) .catalogue ⌝ }
+    ensures disk { λ _. ⌜ now (disk .exit)
+        ≡ addOutcome version1 id (now (content .entry)) (now (cat .entry)) (now (disk .entry)) .disk ⌝ }
+{
+    if cat.len() != Section::CATALOGUE_SIZE {
+        return Answer::CatalogueLength;
+    }
+    let l = decoder::load(cat);
+    if !l.sound {
+        return Answer::NotSound;
+    }
+    let table = l.table;
+    let r = calls::add_in(disk, table, id, content);
+    if r.changed {
+        let next = r.table;
+        encoder::store(cat, next);
+    }
+    r.answer
+}
+
+// Removes the file of an id, and answers how many blocks were copied.
+pub fn remove(cat: &mut [u8], disk: &mut [u8], id: u16) -> Answer
+    ensures answer { λ r. ⌜ replyOf r ≡ removeOutcome version1 id (now (cat .entry)) (now (disk .entry)) .reply ⌝ }
+    ensures catalogue { λ _. ⌜ now (cat .exit)
+        ≡ removeOutcome version1 id (now (cat .entry)) (now (disk .entry)) .catalogue ⌝ }
+    ensures disk { λ _. ⌜ now (disk .exit)
+        ≡ removeOutcome version1 id (now (cat .entry)) (now (disk .entry)) .disk ⌝ }
+    ensures limit { λ r. ⌜ WithinCarries (now (cat .entry)) id (replyOf r) ⌝ }
+{
+    if cat.len() != Section::CATALOGUE_SIZE {
+        return Answer::CatalogueLength;
+    }
+    let l = decoder::load(cat);
+    if !l.sound {
+        return Answer::NotSound;
+    }
+    let table = l.table;
+    let r = calls::remove_in(disk, table, id);
+    if r.changed {
+        let next = r.table;
+        encoder::store(cat, next);
+    }
+    r.answer
+}

@@ -1,0 +1,2 @@
+-- The laws of the exported calls, by subject.
+pub mod Signed

@@ -1,0 +1,23 @@
+-- `evdisk::changing::evdisk_format` meets its contract: the outcome of the call, its answer as a number. Assumes nothing.
+use mathlib.Core.Path.{_∙_, ap}
+use borrow.Author.Needs.{needs}
+use Rattle.evdisk.specs.Codes.{codeOf}
+use Rattle.evdisk.proofs.changing.evdisk_format.Statement.{statement}
+use Rattle.evdisk.proofs.changing.evdisk_format.Tie as tie
+
+format-requires : tie.Need-format-requires
+format-requires c κs = search needs
+
+code-requires : tie.Need-code-requires
+code-requires c κs = search needs
+
+same-length : tie.Need-same-length
+same-length c = search needs
+
+returns : tie.Need-returns
+returns c =
+    let e = c .before .before .before .format .ensures in
+    (c .code .ensures .1 ∙ (c .code .ensures .0 ∙ ap codeOf (e .0)), e .1 .0)
+
+pub evdisk-format-spec : {M : Type 1} → statement M
+evdisk-format-spec = tie.close (tie.spec format-requires code-requires same-length returns)

@@ -1,0 +1,27 @@
+-- `evdisk::changing::evdisk_remove` meets its contract: the outcome of the call, its answer as a number. Assumes nothing.
+use mathlib.Core.Path.{_∙_, ap}
+use borrow.Author.Needs.{needs}
+use Rattle.evdisk.specs.Codes.{codeOf}
+use Rattle.evdisk.proofs.changing.evdisk_remove.Statement.{statement}
+use Rattle.evdisk.proofs.changing.evdisk_remove.Tie as tie
+
+remove-requires : tie.Need-remove-requires
+remove-requires c κs = search needs
+
+code-requires : tie.Need-code-requires
+code-requires c κs = search needs
+
+same-length : tie.Need-same-length
+same-length c = search needs
+
+same-length-2 : tie.Need-same-length-2
+same-length-2 c = search needs
+
+returns : tie.Need-returns
+returns c =
+    let e = c .before .before .before .before .before .remove .ensures in
+    (c .code .ensures .1 ∙ (c .code .ensures .0 ∙ ap codeOf (e .0)), (e .1 .0, e .1 .1 .0))
+
+pub evdisk-remove-spec : {M : Type 1} → statement M
+evdisk-remove-spec =
+    tie.close (tie.spec remove-requires code-requires same-length same-length-2 returns)

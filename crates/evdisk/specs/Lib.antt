@@ -1,0 +1,2 @@
+-- Definitions only: what an exported call gives back.
+pub mod Codes

@@ -1,0 +1,63 @@
+/*
+ * evdisk: the event disk manager of a volcano station.
+ *
+ * A disk is 1 to 4,096 blocks of 512 bytes and a catalogue is 4,096 bytes. Both belong to the caller, who lends them
+ * for the time of a call and keeps their bytes in between. A call uses no memory of its own but the stack, and nothing
+ * else: no files, no clock, no state.
+ *
+ * Every call gives back a number of 0 or more, the answer, or minus the number of a refusal. A refused call changes no
+ * byte. Whatever the numbers and the bytes are, a call ends; pointers have to point to as many bytes as the length
+ * beside them says, and the buffers of one call must not overlap.
+ *
+ * The first of these that holds is the refusal:
+ *
+ *    1  the catalogue buffer is not 4,096 bytes long
+ *    2  the disk buffer is not 1 to 4,096 blocks of 512 bytes long (format alone)
+ *    3  the catalogue is not sound
+ *    4  the disk buffer is not as long as the catalogue says
+ *    5  the id is 0
+ *    6  no file has this id
+ *    7  a file has this id already
+ *    8  the content or output buffer is empty or no multiple of 512 bytes long
+ *    9  the pages go past the end of the file
+ *   10  there are 64 files already
+ *   11  there are fewer free blocks than the content has
+ */
+#ifndef EVDISK_H
+#define EVDISK_H
+
+#include <stddef.h>
+#include <stdint.h>
+
+#ifdef __cplusplus
+extern "C" {
+#endif
+
+/* Makes the catalogue that of a disk with no file. The disk is not touched. Answers its number of blocks. */
+int64_t evdisk_format(uint8_t *cat, size_t cat_length, const uint8_t *disk, size_t disk_length);
+
+/* Adds a file with the pages of content, 512 bytes each. Answers their number. */
+int64_t evdisk_add(uint8_t *cat, size_t cat_length, uint8_t *disk, size_t disk_length, uint16_t id,
+                   const uint8_t *content, size_t content_length);
+
+/* Removes a file and joins free space. Answers how many blocks were copied. */
+int64_t evdisk_remove(uint8_t *cat, size_t cat_length, uint8_t *disk, size_t disk_length, uint16_t id);
+
+/* Fills out with pages of a file, from the page first on; pages count from 0. Answers how many pages out has. */
+int64_t evdisk_read(const uint8_t *cat, size_t cat_length, const uint8_t *disk, size_t disk_length, uint16_t id,
+                    uint64_t first, uint8_t *out, size_t out_length);
+
+/* Answers in how many pieces a file lies, less one. */
+int64_t evdisk_breaks(const uint8_t *cat, size_t cat_length, uint16_t id);
+
+/* Answers the number of free blocks. */
+int64_t evdisk_free(const uint8_t *cat, size_t cat_length);
+
+/* Answers the number of blocks if the catalogue is sound and the disk is as long as it says. */
+int64_t evdisk_check(const uint8_t *cat, size_t cat_length, const uint8_t *disk, size_t disk_length);
+
+#ifdef __cplusplus
+}
+#endif
+
+#endif

@@ -11,6 +11,7 @@ pub extern "C" fn evdisk_format(cat: &mut [u8], disk: &[u8]) -> i64
     ensures answer { λ r. ⌜ r ≡ codeOf (formatOutcome version1 (now (cat .entry)) (now (disk .entry)) .reply) ⌝ }
     ensures catalogue { λ _. ⌜ now (cat .exit)
         ≡ formatOutcome version1 (now (cat .entry)) (now (disk .entry)) .catalogue ⌝ }
+    ensures disk { λ _. ⌜ now (disk .entry) ≡ formatOutcome version1 (now (cat .entry)) (now (disk .entry)) .disk ⌝ }
 {
     let a = event_disk::format(cat, disk);
     code(a)

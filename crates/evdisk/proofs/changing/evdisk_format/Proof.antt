@@ -17,7 +17,7 @@ same-length c = search needs
 returns : tie.Need-returns
 returns c =
     let e = c .before .before .before .format .ensures in
-    (c .code .ensures .1 ∙ (c .code .ensures .0 ∙ ap codeOf (e .0)), e .1 .0)
+    (c .code .ensures .1 ∙ (c .code .ensures .0 ∙ ap codeOf (e .0)), (e .1 .0, e .1 .1))
 
 pub evdisk-format-spec : {M : Type 1} → statement M
 evdisk-format-spec = tie.close (tie.spec format-requires code-requires same-length returns)

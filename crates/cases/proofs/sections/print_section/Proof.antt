@@ -2,8 +2,8 @@
 use mathlib.Core.Path.{sym, _∙_}
 use Rattle.section.proofs.Lengths.{length-of-height}
 use borrow.Author.Needs.{needs}
-use Rattle.cases.proofs.print_section.Statement.{statement}
-use Rattle.cases.proofs.print_section.Tie as tie
+use Rattle.cases.proofs.sections.print_section.Statement.{statement}
+use Rattle.cases.proofs.sections.print_section.Tie as tie
 
 slice-aggregate-print-pair : tie.Need-slice-aggregate-print-pair
 slice-aggregate-print-pair c = search needs

@@ -5,8 +5,8 @@ use borrow.Author.Tests.{eq-eqb}
 use native.Mathlib.Omega.{arith}
 use Rattle.section.specs.Sections.{isOnDisk, isAligned, buddyFirst}
 use Rattle.section.specs.declared.Section.{Section}
-use Rattle.cases.proofs.check_lower_buddy.Statement.{statement}
-use Rattle.cases.proofs.check_lower_buddy.Tie as tie
+use Rattle.cases.proofs.sections.check_lower_buddy.Statement.{statement}
+use Rattle.cases.proofs.sections.check_lower_buddy.Tie as tie
 
 lower-buddy-requires : tie.Need-lower-buddy-requires
 unfolding isOnDisk isAligned

@@ -6,8 +6,8 @@ use Rattle.section.proofs.Answers.{on-disk-iff, has-buddy-iff}
 use Rattle.section.proofs.Buddies.{buddy-of-lower}
 use Rattle.section.specs.Sections.{isOnDisk, hasBuddy}
 use Rattle.section.specs.declared.Height.{Height}
-use Rattle.cases.proofs.lower_buddy.Statement.{statement}
-use Rattle.cases.proofs.lower_buddy.Tie as tie
+use Rattle.cases.proofs.sections.lower_buddy.Statement.{statement}
+use Rattle.cases.proofs.sections.lower_buddy.Tie as tie
 
 buddy-requires : tie.Need-buddy-requires
 buddy-requires c κs = search needs

@@ -1,8 +1,14 @@
 -- What an exported call gives back: the answered number, or minus the number of the refusal. Definitions only.
 use mathlib.Core.Path.{_≡_}
+use mathlib.Core.List.{List}
+use Prim.Native.Nat.{ℕ, _≤_}
 use lib.IntN.{ℤ, pos, negℤ}
 use mir.Syntax.{w64}
 use mir.Val.{ofZ, toZ}
+use Rattle.layout.specs.Carries.{carries}
+use Rattle.layout.specs.Layout.{File, Layout, fileBlocks, findFile, found, freeBlocks}
+use Rattle.catalogue.specs.Reading.{readCatalogue, sound}
+use Rattle.catalogue.specs.Version.{version1}
 use Rattle.manager.specs.Conditions.{Reply, answered, refused}
 
 abbrev pub codeOf : Reply → ℤ
@@ -12,3 +18,9 @@ codeOf (refused n) = negℤ (pos n)
 -- r is a signed number of 64 bits
 abbrev pub Signed : ℤ → Type 0
 Signed r = toZ w64 (ofZ w64 r) ≡ r
+
+-- a number that is no refusal is at most the carries of the free blocks and the blocks of the file i
+abbrev pub CodeWithinCarries : List ℕ → ℕ → ℤ → Type 0
+CodeWithinCarries cat i r =
+    (l : Layout) (f : File) (n : ℕ) → readCatalogue version1 cat ≡ sound l → findFile i (l .files) ≡ found f
+    → r ≡ pos n → n ≤ carries (version1 .heights) (freeBlocks l) (fileBlocks f)

@@ -2,7 +2,7 @@
 ghost use mathlib.Core.Path.{_≡_};
 ghost use Rattle.catalogue.specs.Version.{version1};
 ghost use Rattle.manager.specs.Outcomes.{addOutcome, formatOutcome, removeOutcome};
-ghost use Rattle.evdisk.specs.Codes.{codeOf};
+ghost use Rattle.evdisk.specs.Codes.{CodeWithinCarries, codeOf};
 use super::codes::code;
 
 // Makes the catalogue that of a disk with no file: the number of blocks.
@@ -39,6 +39,7 @@ pub extern "C" fn evdisk_remove(cat: &mut [u8], disk: &mut [u8], id: u16) -> i64
         ≡ removeOutcome version1 id (now (cat .entry)) (now (disk .entry)) .catalogue ⌝ }
     ensures disk { λ _. ⌜ now (disk .exit)
         ≡ removeOutcome version1 id (now (cat .entry)) (now (disk .entry)) .disk ⌝ }
+    ensures limit { λ r. ⌜ CodeWithinCarries (now (cat .entry)) id r ⌝ }
 {
     let a = event_disk::remove(cat, disk, id);
     code(a)

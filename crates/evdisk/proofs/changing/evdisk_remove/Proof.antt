@@ -1,7 +1,9 @@
 -- `evdisk::changing::evdisk_remove` meets its contract: the outcome of the call, its answer as a number. Assumes nothing.
 use mathlib.Core.Path.{_∙_, ap}
 use borrow.Author.Needs.{needs}
+use Rattle.calls.specs.Answers.{replyOf}
 use Rattle.evdisk.specs.Codes.{codeOf}
+use Rattle.evdisk.proofs.Within.{code-within}
 use Rattle.evdisk.proofs.changing.evdisk_remove.Statement.{statement}
 use Rattle.evdisk.proofs.changing.evdisk_remove.Tie as tie
 
@@ -19,8 +21,12 @@ same-length-2 c = search needs
 
 returns : tie.Need-returns
 returns c =
-    let e = c .before .before .before .before .before .remove .ensures in
-    (c .code .ensures .1 ∙ (c .code .ensures .0 ∙ ap codeOf (e .0)), (e .1 .0, e .1 .1 .0))
+    let b = c .before .before .before .before .before in
+    let a = b .before .before .before .before .before .args in
+    let e = b .remove .ensures in
+    let number = c .code .ensures .1 ∙ c .code .ensures .0 in
+    let within = code-within (a .cat .now) (a .id) (replyOf (b .remove .result)) _ number (e .1 .1 .1) in
+    (number ∙ ap codeOf (e .0), (e .1 .0, (e .1 .1 .0, within)))
 
 pub evdisk-remove-spec : {M : Type 1} → statement M
 evdisk-remove-spec =

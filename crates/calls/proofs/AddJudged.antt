@@ -9,11 +9,14 @@ use lib.ListN.{length}
 use borrow.Author.Tests.{eq-eqb, le-leb, le-ltb, lt-leb, lt-ltb, ne-eqb}
 use Rattle.calls.proofs.AddChecks.{act, checks, judge-10, judge-11, judge-4, judge-5, judge-7, judge-8, judge-none}
 use Rattle.calls.proofs.Refusing.{refused-makes}
-use Rattle.calls.specs.Adding.{CanAdd, IsFree, Places}
-use Rattle.calls.specs.Answers.{refusing, replyOf}
-use Rattle.calls.specs.declared.Answer.the-variants as Answer·
-use Rattle.calls.specs.Opened.{Makes, Opened, addOn}
-use Rattle.calls.specs.declared.Answer.{Answer}
+use Rattle.looking.specs.Opened.{IsFree}
+use Rattle.calls.specs.Adding.{CanAdd, Places}
+use Rattle.looking.specs.Answers.{replyOf}
+use Rattle.calls.specs.Refusing.{refusing}
+use Rattle.looking.specs.declared.Answer.the-variants as Answer·
+use Rattle.looking.specs.Opened.{Opened}
+use Rattle.calls.specs.Changing.{Makes, addOn}
+use Rattle.looking.specs.declared.Answer.{Answer}
 use Rattle.catalogue.specs.Encoding.{encode}
 use Rattle.catalogue.specs.Version.{version1}
 use Rattle.layout.proofs.Swaps.{right}

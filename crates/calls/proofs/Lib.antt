@@ -2,11 +2,6 @@
 pub mod Settling
 pub mod Refusing
 pub mod Removals
-pub mod LookedUp
-pub mod LookChecks
-pub mod LookJudged
-pub mod ReadJudged
-pub mod FreeSum
 pub mod Placing
 pub mod AddChecks
 pub mod AddJudged

@@ -7,7 +7,7 @@ use native.Mathlib.Omega.{arith}
 use lib.ListN.{length}
 use Rattle.blocks.proofs.DiskFits.{entry-on-disk}
 use Rattle.blocks.specs.DiskCode.{EntryFits, WriteFits}
-use Rattle.calls.proofs.FreeSum.{opened-sums}
+use Rattle.looking.proofs.FreeSum.{opened-sums}
 use Rattle.calls.specs.Adding.{CanAdd, Places}
 use Rattle.layout.proofs.Added.{added-size, added-sound, allocate-fits}
 use Rattle.layout.proofs.Allocating.{Allocates, AllocatesOf}

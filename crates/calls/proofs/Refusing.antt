@@ -5,9 +5,10 @@ use mathlib.Core.List.{List, []}
 use mathlib.Core.Path.{_∙_, _≡_, ap, subst, sym}
 use Prim.Native.Nat.{ℕ}
 use native.Mathlib.Omega.{arith}
-use Rattle.calls.specs.Answers.{refusing, replyOf}
-use Rattle.calls.specs.Opened.{Makes}
-use Rattle.calls.specs.declared.Answer.{Answer}
+use Rattle.looking.specs.Answers.{replyOf}
+use Rattle.calls.specs.Refusing.{refusing}
+use Rattle.calls.specs.Changing.{Makes}
+use Rattle.looking.specs.declared.Answer.{Answer}
 use Rattle.calls.specs.declared.Changed.{Changed}
 use Rattle.manager.specs.Conditions.{Judgement, Outcome, refusal, refused, unlessRefused}
 use Rattle.table.specs.Tables.{Sized}

@@ -8,9 +8,10 @@ use lib.Dec.{eqb}
 use lib.ListN.{length}
 use borrow.Author.Tests.{eq-eqb, ne-eqb}
 use Rattle.calls.proofs.Refusing.{refused-makes}
-use Rattle.calls.specs.Answers.{refusing}
-use Rattle.calls.specs.declared.Answer.the-variants as Answer·
-use Rattle.calls.specs.Opened.{Makes, Opened, removeOn}
+use Rattle.calls.specs.Refusing.{refusing}
+use Rattle.looking.specs.declared.Answer.the-variants as Answer·
+use Rattle.looking.specs.Opened.{Opened}
+use Rattle.calls.specs.Changing.{Makes, removeOn}
 use Rattle.calls.specs.Settling.{CanSettle, Settles, mergesOf}
 use Rattle.calls.specs.declared.Settled.{Settled}
 use Rattle.catalogue.specs.Encoding.{encode}

@@ -4,7 +4,7 @@ use mathlib.Core.Bool.{false}
 use mathlib.Core.List.{List}
 use Prim.Native.Nat.{ℕ, suc, _*_, _<_, _≤_}
 use Rattle.section.specs.declared.Section.{Section}
-use Rattle.section.specs.Limits.{blockSize, greatestDisk, greatestHeight, mostFiles}
+use Rattle.section.specs.Limits.{blockSize, greatestHeight, mostFiles}
 use Rattle.layout.specs.Adding.{allocate, allocated, withFile}
 use Rattle.layout.specs.Layout.{blocksOf, freeBlocks, hasFile}
 use Rattle.layout.specs.Sound.{Sound, greatestId}
@@ -12,12 +12,7 @@ use Rattle.manager.specs.Conditions.{unpaged}
 use Rattle.manager.specs.Disk.{cutPages, pageCount, writePages}
 use Rattle.table.specs.declared.Table.{Table}
 use Rattle.table.specs.Tables.{Sized, filesOf, freeOf, layoutOf}
-use Rattle.calls.specs.Opened.{Opened}
-
--- r is the number of free blocks
-pub record IsFree (t : Table) (r : ℕ) : Type 0 where
-  pub equal : r ≡ freeBlocks (layoutOf t)
-  pub most : r ≤ greatestDisk
+use Rattle.looking.specs.Opened.{Opened}
 
 -- no condition refuses the add of the content bs as id i on a disk of k bytes, and n is the number of its pages
 pub record CanAdd (t : Table) (i n k : ℕ) (bs : List ℕ) : Type 0 where

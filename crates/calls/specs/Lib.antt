@@ -1,6 +1,6 @@
--- Definitions only: what the code of the calls asks for and promises.
+-- Definitions only: what the code of the calls that change a table asks for and promises.
 pub mod Settling
-pub mod Answers
-pub mod Opened
+pub mod Refusing
+pub mod Changing
 pub mod Adding
 pub mod Fresh

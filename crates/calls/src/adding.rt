@@ -1,12 +1,13 @@
 // Adding: the conditions in order, then the pieces, the pages and the new table.
 ghost use lib.ListN.{length};
 ghost use Rattle.table.specs.Tables.{layoutOf};
-ghost use Rattle.calls.specs.Opened.{Makes, Opened, addOn};
+ghost use Rattle.looking.specs.Opened.{Opened};
+ghost use Rattle.calls.specs.Changing.{Makes, addOn};
 ghost use Rattle.calls.specs.Adding.{CanAdd, Places};
-use super::free::free_in;
-use crate::Answer;
 use crate::Changed;
 use crate::kept;
+use looking::Answer;
+use looking::free_in;
 use section::Section;
 use table::Entry;
 use table::Table;

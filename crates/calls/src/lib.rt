@@ -1,38 +1,17 @@
-// The calls past the catalogue: on a table that was loaded, and on a lent disk.
+// The calls that change a table, past the catalogue: on a table that was loaded, and on a lent disk.
 ghost use mathlib.Core.Path.{_≡_};
-ghost use Rattle.calls.specs.Answers.{refusing};
+ghost use Rattle.calls.specs.Refusing.{refusing};
 
 mod adding;
-mod free;
 mod fresh;
-mod looking;
 mod removing;
 
 pub use adding::add_in;
-pub use free::free_in;
 pub use fresh::fresh_table;
-pub use looking::breaks_in;
-pub use looking::check_in;
-pub use looking::read_in;
+use looking::Answer;
 pub use removing::remove_in;
 pub use removing::settle;
 use table::Table;
-
-// The answered number, or the refusal by name.
-pub enum Answer {
-    Number(u32),
-    CatalogueLength,
-    NoDisk,
-    NotSound,
-    DiskLength,
-    IdZero,
-    IdMissing,
-    IdThere,
-    BufferLength,
-    PastEnd,
-    FilesFull,
-    NoSpace,
-}
 
 // A table whose merges are done, and the number of blocks that were copied for it.
 pub struct Settled {

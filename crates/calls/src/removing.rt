@@ -2,11 +2,12 @@
 ghost use lib.ListN.{length};
 ghost use Rattle.table.specs.Tables.{layoutOf};
 ghost use Rattle.calls.specs.Settling.{CanSettle, Settles};
-ghost use Rattle.calls.specs.Opened.{Makes, Opened, removeOn};
-use crate::Answer;
+ghost use Rattle.looking.specs.Opened.{Opened};
+ghost use Rattle.calls.specs.Changing.{Makes, removeOn};
 use crate::Changed;
 use crate::Settled;
 use crate::kept;
+use looking::Answer;
 use section::Section;
 use table::Table;
 

@@ -3,8 +3,8 @@
 // Two pairs cannot apply together: 5 and 7, for no file has the id 0, and 6 and 9, for what is not there has no pages.
 use crate::show;
 use crate::store;
-use calls::Answer;
 use libc::STDOUT_FILENO;
+use looking::Answer;
 
 // The calls.
 pub enum Call {

@@ -1,6 +1,6 @@
 // Answers and refusals in words.
-use calls::Answer;
 use libc::STDOUT_FILENO;
+use looking::Answer;
 
 // Writes a word and a number.
 pub fn print_number(word: &[u8], n: u64) {

@@ -1,7 +1,7 @@
 // A store in which chosen refusals apply: the buffers that a case lends to a call, and the numbers that it passes.
 //
 // A disk of 65 blocks has the files 1, 2 and 3 of one page, or 1 to 64 of one page where the refusal 10 is to apply.
-use calls::Answer;
+use looking::Answer;
 
 // Whether the refusal is one of the two that are to apply.
 pub fn applies(number: u32, x: u32, y: u32) -> bool {

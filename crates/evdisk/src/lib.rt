@@ -3,4 +3,4 @@
 // A buffer passes as a pointer and a length. The buffers of one call do not overlap.
 mod changing;
 mod codes;
-mod looking;
+mod reading;

@@ -4,8 +4,9 @@ use mathlib.Core.List.{List}
 use mathlib.Core.Path.{_∙_, _≡_, ap, sym}
 use Prim.Native.Nat.{ℕ}
 use borrow.Author.Tests.{not-false, not-true}
-use Rattle.calls.specs.Answers.{replyOf}
-use Rattle.calls.specs.Opened.{Makes, Opened}
+use Rattle.looking.specs.Answers.{replyOf}
+use Rattle.looking.specs.Opened.{Opened}
+use Rattle.calls.specs.Changing.{Makes}
 use Rattle.calls.specs.declared.Changed.{Changed}
 use Rattle.catalogue.proofs.Reading.{read-sound}
 use Rattle.catalogue.proofs.Roomy.{version1-roomy}

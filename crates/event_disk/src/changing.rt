@@ -2,9 +2,9 @@
 ghost use mathlib.Core.Path.{_≡_};
 ghost use Rattle.catalogue.specs.Version.{version1};
 ghost use Rattle.manager.specs.Outcomes.{addOutcome, removeOutcome};
-ghost use Rattle.calls.specs.Answers.{replyOf};
+ghost use Rattle.looking.specs.Answers.{replyOf};
 ghost use Rattle.event_disk.specs.Limit.{WithinCarries};
-use calls::Answer;
+use looking::Answer;
 use section::Section;
 
 // Adds a file with the pages of `content`, and answers how many there are.

@@ -2,8 +2,8 @@
 ghost use mathlib.Core.Path.{_≡_};
 ghost use Rattle.catalogue.specs.Version.{version1};
 ghost use Rattle.manager.specs.Outcomes.{formatOutcome};
-ghost use Rattle.calls.specs.Answers.{replyOf};
-use calls::Answer;
+ghost use Rattle.looking.specs.Answers.{replyOf};
+use looking::Answer;
 use section::Section;
 
 // Makes the catalogue that of a disk with no file, and answers its number of blocks. The disk is not touched.

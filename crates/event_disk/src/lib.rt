@@ -2,12 +2,12 @@
 // refusal.
 mod changing;
 mod formatting;
-mod looking;
+mod reading;
 
 pub use changing::add;
 pub use changing::remove;
 pub use formatting::format;
-pub use looking::breaks;
-pub use looking::check;
-pub use looking::free;
-pub use looking::read;
+pub use reading::breaks;
+pub use reading::check;
+pub use reading::free;
+pub use reading::read;

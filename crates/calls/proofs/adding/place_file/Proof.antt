@@ -1,7 +1,7 @@
 -- `calls::adding::place_file` meets its contract: the pieces that it lays are those that the definition allocates.
 -- Assumes nothing.
 use borrow.Author.Needs.{needs}
-use Rattle.calls.proofs.FreeSum.{opened-stocked}
+use Rattle.looking.proofs.FreeSum.{opened-stocked}
 use Rattle.calls.proofs.Placing.{place-placed, place-writes}
 use Rattle.calls.proofs.adding.place_file.Statement.{statement}
 use Rattle.calls.proofs.adding.place_file.Tie as tie

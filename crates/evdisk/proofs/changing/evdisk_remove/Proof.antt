@@ -1,7 +1,7 @@
 -- `evdisk::changing::evdisk_remove` meets its contract: the outcome of the call, its answer as a number. Assumes nothing.
 use mathlib.Core.Path.{_∙_, ap}
 use borrow.Author.Needs.{needs}
-use Rattle.calls.specs.Answers.{replyOf}
+use Rattle.looking.specs.Answers.{replyOf}
 use Rattle.evdisk.specs.Codes.{codeOf}
 use Rattle.evdisk.proofs.Within.{code-within}
 use Rattle.evdisk.proofs.changing.evdisk_remove.Statement.{statement}

@@ -7,7 +7,7 @@ use Rattle.catalogue.specs.Version.{version1}
 use Rattle.table.specs.Tables.{layoutOf}
 use Rattle.manager.specs.Conditions.{Outcome}
 use Rattle.manager.specs.Outcomes.{addOutcome}
-use Rattle.calls.specs.Opened.{addOn}
+use Rattle.calls.specs.Changing.{addOn}
 use Rattle.manager.proofs.OnRead.{add-on-read, add-unsound, add-wrong}
 use Rattle.event_disk.proofs.Opening.{answer-of, disk-of, kept-of, loaded-opened, loaded-sound}
 use Rattle.event_disk.proofs.Opening.{loaded-unsound, stored-of}

@@ -7,7 +7,7 @@ use Rattle.catalogue.specs.Version.{version1}
 use Rattle.table.specs.Tables.{layoutOf}
 use Rattle.manager.specs.Conditions.{Outcome}
 use Rattle.manager.specs.Outcomes.{removeOutcome}
-use Rattle.calls.specs.Opened.{removeOn}
+use Rattle.calls.specs.Changing.{removeOn}
 use Rattle.manager.proofs.OnRead.{remove-on-read, remove-unsound, remove-wrong}
 use Rattle.event_disk.proofs.Opening.{answer-of, disk-of, kept-of, loaded-opened, loaded-sound}
 use Rattle.event_disk.proofs.Opening.{loaded-unsound, stored-of}

@@ -1,0 +1,18 @@
+-- `evdisk::reading::evdisk_breaks` meets its contract: the outcome of the call, its answer as a number. Assumes nothing.
+use mathlib.Core.Path.{_∙_, ap}
+use borrow.Author.Needs.{needs}
+use Rattle.evdisk.specs.Codes.{codeOf}
+use Rattle.evdisk.proofs.reading.evdisk_breaks.Statement.{statement}
+use Rattle.evdisk.proofs.reading.evdisk_breaks.Tie as tie
+
+breaks-requires : tie.Need-breaks-requires
+breaks-requires c κs = search needs
+
+code-requires : tie.Need-code-requires
+code-requires c κs = search needs
+
+returns : tie.Need-returns
+returns c = c .code .ensures .1 ∙ (c .code .ensures .0 ∙ ap codeOf (c .before .breaks .ensures))
+
+pub evdisk-breaks-spec : {M : Type 1} → statement M
+evdisk-breaks-spec = tie.close (tie.spec breaks-requires code-requires returns)

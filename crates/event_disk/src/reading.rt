@@ -1,0 +1,71 @@
+// The calls that change no catalogue: it is loaded once, and the call answers from its table.
+ghost use mathlib.Core.Path.{_≡_};
+ghost use Rattle.catalogue.specs.Version.{version1};
+ghost use Rattle.manager.specs.Outcomes.{breaksReply, checkReply, freeReply, readOutcome};
+ghost use Rattle.looking.specs.Answers.{replyOf};
+use looking::Answer;
+use section::Section;
+
+// Fills the output with the pages of a file from `first` on, and answers how many.
+pub fn read(cat: &[u8], disk: &[u8], id: u16, first: u64, out: &mut [u8]) -> Answer
+    ensures answer { λ r. ⌜ replyOf r
+        ≡ readOutcome version1 id first (now (out .entry)) (now (cat .entry)) (now (disk .entry)) .reply ⌝ }
+    ensures output { λ _. ⌜ now (out .exit)
+        ≡ readOutcome version1 id first (now (out .entry)) (now (cat .entry)) (now (disk .entry)) .output ⌝ }
+{
+    if cat.len() != Section::CATALOGUE_SIZE {
+        return Answer::CatalogueLength;
+    }
+    let l = decoder::load(cat);
+    if !l.sound {
+        return Answer::NotSound;
+    }
+    let table = l.table;
+    looking::read_in(disk, table, id, first, out)
+}
+
+// Answers how many breaks a file has.
+pub fn breaks(cat: &[u8], id: u16) -> Answer
+    ensures answer { λ r. ⌜ replyOf r ≡ breaksReply version1 id (now (cat .entry)) ⌝ }
+{
+    if cat.len() != Section::CATALOGUE_SIZE {
+        return Answer::CatalogueLength;
+    }
+    let l = decoder::load(cat);
+    if !l.sound {
+        return Answer::NotSound;
+    }
+    let table = l.table;
+    looking::breaks_in(table, id)
+}
+
+// Answers how many blocks are free.
+pub fn free(cat: &[u8]) -> Answer
+    ensures answer { λ r. ⌜ replyOf r ≡ freeReply version1 (now (cat .entry)) ⌝ }
+{
+    if cat.len() != Section::CATALOGUE_SIZE {
+        return Answer::CatalogueLength;
+    }
+    let l = decoder::load(cat);
+    if !l.sound {
+        return Answer::NotSound;
+    }
+    let table = l.table;
+    let n = looking::free_in(table);
+    Answer::Number(n)
+}
+
+// Answers how many blocks the disk has, if it is as long as the catalogue says.
+pub fn check(cat: &[u8], disk: &[u8]) -> Answer
+    ensures answer { λ r. ⌜ replyOf r ≡ checkReply version1 (now (cat .entry)) (now (disk .entry)) ⌝ }
+{
+    if cat.len() != Section::CATALOGUE_SIZE {
+        return Answer::CatalogueLength;
+    }
+    let l = decoder::load(cat);
+    if !l.sound {
+        return Answer::NotSound;
+    }
+    let table = l.table;
+    looking::check_in(disk.len(), table)
+}

@@ -1,0 +1,76 @@
+-- The file at the place that `find` answers: what is known of it in a loaded table. Assumes nothing.
+use mathlib.Core.List.{List}
+use mathlib.Core.Path.{_≡_}
+use Prim.Native.Nat.{_*_, _<_, _≤_, ℕ}
+use native.Mathlib.Omega.{arith}
+use lib.ListN.{length}
+use Rattle.blocks.proofs.DiskFits.{entry-on-disk}
+use Rattle.blocks.specs.DiskCode.{EntryFits}
+use Rattle.looking.specs.Opened.{Opened}
+use Rattle.layout.proofs.Finding.{Find, find-each, found-find, here, there}
+use Rattle.layout.proofs.Lists.{each-imp, each-left}
+use Rattle.layout.proofs.Ranges.{within}
+use Rattle.layout.specs.Layout.{File, OnDisk, blockCount, fileBlocks, filePieces, findFile, found, missing}
+use Rattle.layout.specs.Lists.{Each, more}
+use Rattle.section.specs.Limits.{blockSize, greatestDisk}
+use Rattle.section.specs.declared.Section.{Section}
+use Rattle.table.proofs.EachItem.{each-get}
+use Rattle.table.proofs.Released.{find-at, find-none}
+use Rattle.table.specs.Files.{entryAt, hasId, noEntry}
+use Rattle.table.specs.Places.{IsPlace, firstPlace}
+use Rattle.table.specs.Tables.{InPlaces, fileOf, filesOf, layoutOf, piecePlaces, piecesIn}
+use Rattle.table.specs.declared.Table.{Table}
+
+find-every : {i : ℕ} {l r : List File} {f : File} {P : File → Type 0} → Find i l f r → Each P l → P f
+find-every (here e) (more p q) = p
+find-every (there n x) (more p q) = find-every x q
+
+-- a disk of more blocks has the section too
+wider : (c c′ : ℕ) (s : Section) → c ≤ c′ → OnDisk c s → OnDisk c′ s
+wider c c′ s le o = record { aligned = o .aligned; within = omega (arith, o .within) }
+
+module _ (t : Table) (opened : Opened t) (id i : ℕ)
+    (place : IsPlace (t .count) (firstPlace (hasId id) (filesOf t)) i) where
+  room : t .count ≤ length (t .files)
+  room = omega (arith, opened .array, opened .sized .files)
+
+  pub looked-missing : i ≡ t .count → findFile id (layoutOf t .files) ≡ missing
+  unfolding layoutOf
+  looked-missing e = find-none t id i room (place .place) (omega arith)
+
+  module _ (stands : i ≡ t .count → ⊥) where
+    looked-place : i < t .count
+    looked-place = omega (arith, place .most, stands)
+
+    pub looked-found : findFile id (layoutOf t .files) ≡ found (fileOf (entryAt t i))
+    unfolding layoutOf
+    looked-found = find-at t id i room (place .place) looked-place
+
+    pub looked-count : entryAt t i .count ≤ piecePlaces
+    looked-count = each-get {P = InPlaces} i noEntry (opened .sized .each) (omega (arith, room, looked-place))
+
+    looked-file : (r : List File) × Find id (layoutOf t .files) (fileOf (entryAt t i)) r
+    looked-file = found-find id (layoutOf t .files) (fileOf (entryAt t i)) looked-found
+
+    -- it has a block
+    pub looked-some : 1 ≤ blockCount (piecesIn (entryAt t i))
+    looked-some = find-every {P = λ (f : File). 1 ≤ fileBlocks f} (looked-file .1) (opened .rules .some-pages)
+
+    looked-disk : Each (OnDisk (t .blocks)) (piecesIn (entryAt t i))
+    unfolding layoutOf
+    looked-disk =
+        find-each (looked-file .1)
+        (each-left (filePieces (layoutOf t .files)) (layoutOf t .free) (opened .rules .on-disk)) .0
+
+    small : t .blocks ≤ greatestDisk
+    unfolding layoutOf
+    small = opened .rules .most-blocks
+
+    -- what the functions on blocks ask for
+    pub looked-fits : EntryFits (blockSize * t .blocks) (entryAt t i)
+    looked-fits = entry-on-disk (t .blocks) (entryAt t i) small looked-count looked-disk
+
+    pub looked-greatest : EntryFits (blockSize * greatestDisk) (entryAt t i)
+    looked-greatest =
+        entry-on-disk greatestDisk (entryAt t i) (omega arith) looked-count
+        (each-imp (λ s p. wider (t .blocks) greatestDisk s small p) looked-disk)

@@ -1,0 +1,111 @@
+-- `calls::free::free_in` adds up the lengths of the free pieces: what is added and the blocks of those left are all
+-- free blocks. Assumes nothing.
+use mathlib.Core.Path.{_≡_}
+use Prim.Native.Nat.{_*_, _+_, _-_, _≤_}
+use native.Mathlib.Omega.{arith}
+use lib.ListN.{drop, length, take}
+use borrow.Author.Needs.{needs}
+use Rattle.blocks.proofs.DiskPieces.{count-end, count-here, length-of-mapped, piece-fits}
+use Rattle.layout.specs.Layout.{blockCount}
+use Rattle.section.specs.Limits.{blockSize, greatestDisk}
+use Rattle.table.specs.Tables.{freePlaces}
+use Rattle.looking.proofs.FreeSum.{free-blocks, free-most, free-pieces}
+use Rattle.looking.proofs.free.free_in.Statement.{statement}
+use Rattle.looking.proofs.free.free_in.Tie as tie
+
+abbrev Inv-loop : tie.InvT-loop
+Inv-loop count items sum₀ j₀ sum j =
+    (length items ≡ freePlaces) × (count ≤ freePlaces) × (j ≤ count)
+    × (sum + blockCount (drop j (take count items)) ≡ blockCount (take count items))
+    × (blockCount (take count items) ≤ greatestDisk)
+
+abbrev μ-loop : tie.MeasureT-loop
+μ-loop count items sum₀ j₀ sum j = count - j
+
+loop-holds : tie.Need-loop-holds Inv-loop μ-loop
+loop-holds c =
+    let a = c .before .before in
+    let t = a .args .t in
+    let e : length (t .free .items) ≡ freePlaces = search (needs, length-of-mapped) in
+    (e, a .pre .sized .free, omega arith, omega arith, omega (arith, free-blocks t (a .pre), free-most t (a .pre)))
+
+mul-s : tie.Need-mul-s Inv-loop μ-loop
+mul-s c = search needs
+
+array-copy-out-s : tie.Need-array-copy-out-s Inv-loop μ-loop
+array-copy-out-s c = search needs
+
+length-requires : tie.Need-length-requires Inv-loop μ-loop
+length-requires c κs =
+    let b = c .before .before .before in
+    let a = b .before .before .before in
+    let t = a .args .t in
+    piece-fits (blockSize * greatestDisk) (t .free .items) (t .free .count) (b .loop .j)
+    (omega (arith, b .loop .inv))
+    (c .before .before .loop-test .taken) (free-pieces t (a .pre)) .height
+
+add-sum : tie.Need-add-sum Inv-loop μ-loop
+add-sum c =
+    let b = c .before .before .before .before in
+    let t = b .before .before .before .args .t in
+    let v = b .loop .inv in
+    omega (
+      arith,
+      count-here (t .free .items) (t .free .count) (b .loop .j) (omega arith)
+          (c .before .before .before .loop-test .taken),
+      c .length .ensures .equal,
+      v .3,
+      v .4,
+    )
+
+add-j : tie.Need-add-j Inv-loop μ-loop
+add-j c = search needs
+
+loop-less : tie.Need-loop-less Inv-loop μ-loop
+loop-less c = search needs
+
+loop-again : tie.Need-loop-again Inv-loop μ-loop
+loop-again c =
+    let b = c .before .before .before .before in
+    let t = b .before .before .before .args .t in
+    let v = b .loop .inv in
+    let l = c .before .before .before .loop-test .taken in (
+      v .0,
+      v .1,
+      omega arith,
+      omega (
+        arith,
+        count-here (t .free .items) (t .free .count) (b .loop .j) (omega arith) l,
+        c .length .ensures .equal,
+        v .3,
+      ),
+      v .4,
+    )
+
+returns : tie.Need-returns Inv-loop μ-loop
+returns c =
+    let b = c .before in
+    let a = b .before .before .before in
+    let t = a .args .t in
+    let v = b .loop .inv in
+    let n = count-end (t .free .items) (t .free .count) (b .loop .j) (omega arith) (c .loop-test .left) in
+    record {
+      equal = omega (arith, n, v .3, free-blocks t (a .pre));
+      most = omega (arith, n, v .3, v .4);
+    }
+
+pub free-in-spec : {M : Type 1} → statement M
+free-in-spec =
+    tie.close
+    (tie.spec
+    Inv-loop
+    μ-loop
+    loop-holds
+    mul-s
+    array-copy-out-s
+    length-requires
+    add-sum
+    add-j
+    loop-less
+    loop-again
+    returns)

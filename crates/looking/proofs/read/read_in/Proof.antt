@@ -1,0 +1,168 @@
+-- `looking::read::read_in` meets its contract: each refusal in its turn, else the file's pages. Assumes nothing.
+use mathlib.Core.Path.{_∙_}
+use native.Mathlib.Omega.{arith}
+use borrow.Author.Needs.{needs}
+use Rattle.table.specs.Files.{entryAt}
+use Rattle.table.specs.Tables.{fileOf}
+use Rattle.looking.proofs.LookedUp.{looked-fits, looked-found, looked-greatest, looked-missing}
+use Rattle.looking.proofs.ReadJudged.{read-answered, read-broken, read-empty, read-missing, read-past}
+use Rattle.looking.proofs.ReadJudged.{read-whole, read-wrong, read-zero}
+use Rattle.looking.proofs.read.read_in.Statement.{statement}
+use Rattle.looking.proofs.read.read_in.Tie as tie
+
+cast-if1 : tie.Need-cast-if1
+cast-if1 c = search needs
+
+mul-if1 : tie.Need-mul-if1
+mul-if1 c = search needs
+
+returns : tie.Need-returns
+returns c =
+    let a = c .before .before .before .before .args in
+    read-wrong (a .t) (a .id) (a .first) (a .out .now) (a .disk .now) (c .if1 .taken)
+
+returns-2 : tie.Need-returns-2
+returns-2 c =
+    let a = c .before .before .before .before .before .args in
+    read-zero (a .t) (a .id) (a .first) (a .out .now) (a .disk .now) (c .before .if1 .left) (c .if2 .taken)
+
+find-requires : tie.Need-find-requires
+find-requires c κs = search needs
+
+returns-3 : tie.Need-returns-3
+returns-3 c =
+    let k = c .before .before in
+    let f = k .find in
+    let s = k .before .before .before .before .before .before in
+    let a = s .args in
+    read-missing (a .t) (a .id) (a .first) (a .out .now) (a .disk .now) (k .before .before .if1 .left)
+    (k .before .if2 .left)
+    (looked-missing (a .t) (s .pre) (a .id) (f .result) (f .ensures) (c .if3 .taken))
+
+returns-4 : tie.Need-returns-4
+returns-4 c =
+    let k = c .before .before .before in
+    let f = k .find in
+    let s = k .before .before .before .before .before .before in
+    let a = s .args in
+    read-empty (a .t) (a .id) (a .first) (a .out .now) (a .disk .now) (k .before .before .if1 .left)
+    (k .before .if2 .left) (fileOf (entryAt (a .t) (f .result)))
+    (looked-found (a .t) (s .pre) (a .id) (f .result) (f .ensures) (c .before .if3 .left)) (c .if4 .taken)
+
+returns-5 : tie.Need-returns-5
+returns-5 c =
+    let k = c .before .before .before .before in
+    let f = k .find in
+    let s = k .before .before .before .before .before .before in
+    let a = s .args in
+    read-broken (a .t) (a .id) (a .first) (a .out .now) (a .disk .now) (k .before .before .if1 .left)
+    (k .before .if2 .left) (fileOf (entryAt (a .t) (f .result)))
+    (looked-found (a .t) (s .pre) (a .id) (f .result) (f .ensures) (c .before .before .if3 .left))
+    (c .before .if4 .left) (c .if5 .taken)
+
+mul-e : tie.Need-mul-e
+mul-e c = search needs
+
+array-copy-out-e : tie.Need-array-copy-out-e
+array-copy-out-e c = search needs
+
+sum-of-lengths-requires : tie.Need-sum-of-lengths-requires
+sum-of-lengths-requires c κs =
+    let k = c .before .before .before .before .before .before in
+    let f = k .find in
+    let s = k .before .before .before .before .before .before in
+    let a = s .args in
+    looked-greatest (a .t) (s .pre) (a .id) (f .result) (f .ensures) (c .before .before .before .before .if3 .left)
+
+cast-n : tie.Need-cast-n
+cast-n c = search needs
+
+returns-6 : tie.Need-returns-6
+returns-6 c =
+    let b = c .before .before .before .before in
+    let k = b .before .before .before .before in
+    let f = k .find in
+    let s = k .before .before .before .before .before .before in
+    let a = s .args in
+    read-past (a .t) (a .id) (a .first) (a .out .now) (a .disk .now) (k .before .before .if1 .left)
+    (k .before .if2 .left) (fileOf (entryAt (a .t) (f .result)))
+    (looked-found (a .t) (s .pre) (a .id) (f .result) (f .ensures) (b .before .before .if3 .left))
+    (b .before .if4 .left) (b .if5 .left)
+    (omega (arith, c .before .sum-of-lengths .ensures .equal, c .if6 .taken))
+
+returns-7 : tie.Need-returns-7
+returns-7 c =
+    let b = c .before .before .before .before .before in
+    let k = b .before .before .before .before in
+    let f = k .find in
+    let s = k .before .before .before .before .before .before in
+    let a = s .args in
+    read-past (a .t) (a .id) (a .first) (a .out .now) (a .disk .now) (k .before .before .if1 .left)
+    (k .before .if2 .left) (fileOf (entryAt (a .t) (f .result)))
+    (looked-found (a .t) (s .pre) (a .id) (f .result) (f .ensures) (b .before .before .if3 .left))
+    (b .before .if4 .left) (b .if5 .left)
+    (omega (arith, c .before .before .sum-of-lengths .ensures .equal, c .before .if6 .left, c .if7 .taken))
+
+read-pages-requires : tie.Need-read-pages-requires
+read-pages-requires c κs =
+    let b = c .before .before .before .before .before .before in
+    let k = b .before .before .before .before in
+    let f = k .find in
+    let s = k .before .before .before .before .before .before in
+    let a = s .args in
+    let n = c .before .before .before .sum-of-lengths .ensures .equal in
+    record {
+      entry =
+          rw (k .before .before .if1 .left)
+          (looked-fits (a .t) (s .pre) (a .id) (f .result) (f .ensures) (b .before .before .if3 .left));
+      whole =
+          read-whole (a .t) (a .id) (a .first) (a .out .now) (a .disk .now) (k .before .before .if1 .left)
+          (k .before .if2 .left) (fileOf (entryAt (a .t) (f .result)))
+          (looked-found (a .t) (s .pre) (a .id) (f .result) (f .ensures) (b .before .before .if3 .left))
+          (b .before .if4 .left) (b .if5 .left);
+      pages = omega (arith, n, c .before .before .if6 .left, c .before .if7 .left);
+    }
+
+cast-t15 : tie.Need-cast-t15
+cast-t15 c = search needs
+
+same-length : tie.Need-same-length
+same-length c = search needs
+
+returns-8 : tie.Need-returns-8
+returns-8 c =
+    let p = c .before .before .before .before in
+    let b = p .before .before .before .before .before in
+    let k = b .before .before .before .before in
+    let f = k .find in
+    let s = k .before .before .before .before .before .before in
+    let a = s .args in
+    let r = read-answered (a .t) (a .id) (a .first) (a .out .now) (a .disk .now) (k .before .before .if1 .left)
+    (k .before .if2 .left) (fileOf (entryAt (a .t) (f .result)))
+    (looked-found (a .t) (s .pre) (a .id) (f .result) (f .ensures) (b .before .before .if3 .left))
+    (b .before .if4 .left) (b .if5 .left)
+    (omega (arith, p .before .before .sum-of-lengths .ensures .equal, p .before .if6 .left, p .if7 .left)) in
+    (r .0, λ cat. c .before .before .read-pages .ensures ∙ r .1 cat)
+
+pub read-in-spec : {M : Type 1} → statement M
+read-in-spec =
+    tie.close
+    (tie.spec
+    cast-if1
+    mul-if1
+    returns
+    returns-2
+    find-requires
+    returns-3
+    returns-4
+    returns-5
+    mul-e
+    array-copy-out-e
+    sum-of-lengths-requires
+    cast-n
+    returns-6
+    returns-7
+    read-pages-requires
+    cast-t15
+    same-length
+    returns-8)

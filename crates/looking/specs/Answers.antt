@@ -1,0 +1,18 @@
+-- What the code's answers stand for: document 01's number of each refusal, and the answered number. Definitions only.
+use Rattle.manager.specs.Conditions.{Reply, answered, refused}
+use Rattle.looking.specs.declared.Answer.{Answer}
+use Rattle.looking.specs.declared.Answer.the-variants as Answer·
+
+abbrev pub replyOf : Answer → Reply
+replyOf (Answer·.Number n) = answered n
+replyOf Answer·.CatalogueLength = refused 1
+replyOf Answer·.NoDisk = refused 2
+replyOf Answer·.NotSound = refused 3
+replyOf Answer·.DiskLength = refused 4
+replyOf Answer·.IdZero = refused 5
+replyOf Answer·.IdMissing = refused 6
+replyOf Answer·.IdThere = refused 7
+replyOf Answer·.BufferLength = refused 8
+replyOf Answer·.PastEnd = refused 9
+replyOf Answer·.FilesFull = refused 10
+replyOf Answer·.NoSpace = refused 11

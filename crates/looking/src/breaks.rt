@@ -1,0 +1,39 @@
+// The breaks of a file.
+ghost use mathlib.Core.Path.{_≡_};
+ghost use Prim.Native.Nat.{_≤_};
+ghost use Rattle.layout.specs.Layout.{blockCount, breaksOf, findFile};
+ghost use Rattle.table.specs.Tables.{layoutOf, piecePlaces, piecesIn};
+ghost use Rattle.manager.specs.Conditions.{fileChecks, firstRefusal, replyUnless};
+ghost use Rattle.manager.specs.Outcomes.{breaksFound};
+ghost use Rattle.looking.specs.Answers.{replyOf};
+ghost use Rattle.looking.specs.Opened.{Opened};
+use crate::Answer;
+use table::Entry;
+use table::Table;
+
+// The pieces of a file less one.
+fn breaks_of(e: Entry) -> u32
+    requires { ⌜ (1 ≤ blockCount (piecesIn e)) × (e .count ≤ piecePlaces) ⌝ }
+    ensures { λ r. ⌜ r ≡ breaksOf (piecesIn e) ⌝ }
+{
+    (e.count - 1) as u32
+}
+
+// How many breaks a file has.
+pub fn breaks_in(t: Table, id: u16) -> Answer
+    requires { ⌜ Opened t ⌝ }
+    ensures { λ r. ⌜ replyOf r
+        ≡ replyUnless (firstRefusal (fileChecks id (layoutOf t))) (breaksFound (findFile id (layoutOf t .files))) ⌝ }
+{
+    if id == 0 {
+        return Answer::IdZero;
+    }
+    let i = t.find(id as u32);
+    if i == t.count {
+        return Answer::IdMissing;
+    }
+    let files = t.files;
+    let e = files[i];
+    let n = breaks_of(e);
+    Answer::Number(n)
+}

@@ -1,4 +1,4 @@
 -- The laws of the seven calls, by subject.
-pub mod Opening
+pub mod Entering
 pub mod RemovalLimit
 pub mod FormatOutcome

@@ -1,2 +1,3 @@
--- Definitions only: what the seven calls promise beside their outcomes.
+-- Definitions only: what the seven calls promise beside their outcomes, and what opening a catalogue promises.
 pub mod Limit
+pub mod Opening

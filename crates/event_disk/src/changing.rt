@@ -4,8 +4,9 @@ ghost use Rattle.catalogue.specs.Version.{version1};
 ghost use Rattle.manager.specs.Outcomes.{addOutcome, removeOutcome};
 ghost use Rattle.looking.specs.Answers.{replyOf};
 ghost use Rattle.event_disk.specs.Limit.{WithinCarries};
+use crate::catalogues::open;
+use crate::catalogues::store_changed;
 use looking::Answer;
-use section::Section;
 
 // Adds a file with the pages of `content`, and answers how many there are.
 pub fn add(cat: &mut [u8], disk: &mut [u8], id: u16, content: &[u8]) -> Answer
@@ -16,20 +17,13 @@ pub fn add(cat: &mut [u8], disk: &mut [u8], id: u16, content: &[u8]) -> Answer
     ensures disk { λ _. ⌜ now (disk .exit)
         ≡ addOutcome version1 id (now (content .entry)) (now (cat .entry)) (now (disk .entry)) .disk ⌝ }
 {
-    if cat.len() != Section::CATALOGUE_SIZE {
-        return Answer::CatalogueLength;
+    let o = open(cat);
+    if !o.entered {
+        return o.refusal;
     }
-    let l = decoder::load(cat);
-    if !l.sound {
-        return Answer::NotSound;
-    }
-    let table = l.table;
+    let table = o.table;
     let r = calls::add_in(disk, table, id, content);
-    if r.changed {
-        let next = r.table;
-        encoder::store(cat, next);
-    }
-    r.answer
+    store_changed(cat, r)
 }
 
 // Removes the file of an id, and answers how many blocks were copied.
@@ -41,18 +35,11 @@ pub fn remove(cat: &mut [u8], disk: &mut [u8], id: u16) -> Answer
         ≡ removeOutcome version1 id (now (cat .entry)) (now (disk .entry)) .disk ⌝ }
     ensures limit { λ r. ⌜ WithinCarries (now (cat .entry)) id (replyOf r) ⌝ }
 {
-    if cat.len() != Section::CATALOGUE_SIZE {
-        return Answer::CatalogueLength;
+    let o = open(cat);
+    if !o.entered {
+        return o.refusal;
     }
-    let l = decoder::load(cat);
-    if !l.sound {
-        return Answer::NotSound;
-    }
-    let table = l.table;
+    let table = o.table;
     let r = calls::remove_in(disk, table, id);
-    if r.changed {
-        let next = r.table;
-        encoder::store(cat, next);
-    }
-    r.answer
+    store_changed(cat, r)
 }

@@ -1,5 +1,6 @@
 // The seven calls on a lent catalogue and a lent disk: whatever the buffers and numbers, an answer or a named
 // refusal.
+mod catalogues;
 mod changing;
 mod formatting;
 mod reading;
@@ -7,7 +8,16 @@ mod reading;
 pub use changing::add;
 pub use changing::remove;
 pub use formatting::format;
+use looking::Answer;
 pub use reading::breaks;
 pub use reading::check;
 pub use reading::free;
 pub use reading::read;
+use table::Table;
+
+// The table of a catalogue, if it could be entered, or the refusal.
+pub struct Opening {
+    pub entered: bool,
+    pub refusal: Answer,
+    pub table: Table,
+}

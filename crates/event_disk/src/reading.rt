@@ -3,8 +3,8 @@ ghost use mathlib.Core.Path.{_≡_};
 ghost use Rattle.catalogue.specs.Version.{version1};
 ghost use Rattle.manager.specs.Outcomes.{breaksReply, checkReply, freeReply, readOutcome};
 ghost use Rattle.looking.specs.Answers.{replyOf};
+use crate::catalogues::open;
 use looking::Answer;
-use section::Section;
 
 // Fills the output with the pages of a file from `first` on, and answers how many.
 pub fn read(cat: &[u8], disk: &[u8], id: u16, first: u64, out: &mut [u8]) -> Answer
@@ -13,14 +13,11 @@ pub fn read(cat: &[u8], disk: &[u8], id: u16, first: u64, out: &mut [u8]) -> Ans
     ensures output { λ _. ⌜ now (out .exit)
         ≡ readOutcome version1 id first (now (out .entry)) (now (cat .entry)) (now (disk .entry)) .output ⌝ }
 {
-    if cat.len() != Section::CATALOGUE_SIZE {
-        return Answer::CatalogueLength;
+    let o = open(cat);
+    if !o.entered {
+        return o.refusal;
     }
-    let l = decoder::load(cat);
-    if !l.sound {
-        return Answer::NotSound;
-    }
-    let table = l.table;
+    let table = o.table;
     looking::read_in(disk, table, id, first, out)
 }
 
@@ -28,14 +25,11 @@ pub fn read(cat: &[u8], disk: &[u8], id: u16, first: u64, out: &mut [u8]) -> Ans
 pub fn breaks(cat: &[u8], id: u16) -> Answer
     ensures answer { λ r. ⌜ replyOf r ≡ breaksReply version1 id (now (cat .entry)) ⌝ }
 {
-    if cat.len() != Section::CATALOGUE_SIZE {
-        return Answer::CatalogueLength;
+    let o = open(cat);
+    if !o.entered {
+        return o.refusal;
     }
-    let l = decoder::load(cat);
-    if !l.sound {
-        return Answer::NotSound;
-    }
-    let table = l.table;
+    let table = o.table;
     looking::breaks_in(table, id)
 }
 
@@ -43,14 +37,11 @@ pub fn breaks(cat: &[u8], id: u16) -> Answer
 pub fn free(cat: &[u8]) -> Answer
     ensures answer { λ r. ⌜ replyOf r ≡ freeReply version1 (now (cat .entry)) ⌝ }
 {
-    if cat.len() != Section::CATALOGUE_SIZE {
-        return Answer::CatalogueLength;
+    let o = open(cat);
+    if !o.entered {
+        return o.refusal;
     }
-    let l = decoder::load(cat);
-    if !l.sound {
-        return Answer::NotSound;
-    }
-    let table = l.table;
+    let table = o.table;
     let n = looking::free_in(table);
     Answer::Number(n)
 }
@@ -59,13 +50,10 @@ pub fn free(cat: &[u8]) -> Answer
 pub fn check(cat: &[u8], disk: &[u8]) -> Answer
     ensures answer { λ r. ⌜ replyOf r ≡ checkReply version1 (now (cat .entry)) (now (disk .entry)) ⌝ }
 {
-    if cat.len() != Section::CATALOGUE_SIZE {
-        return Answer::CatalogueLength;
+    let o = open(cat);
+    if !o.entered {
+        return o.refusal;
     }
-    let l = decoder::load(cat);
-    if !l.sound {
-        return Answer::NotSound;
-    }
-    let table = l.table;
+    let table = o.table;
     looking::check_in(disk.len(), table)
 }

@@ -74,74 +74,55 @@ module _ (v : Version) (cat : List ℕ) (l : Layout) (lc : length cat ≡ v .byt
   check-on-read d =
       ap₂ (λ j x. replyUnless j (doCheck x)) (past-catalogue (λ m. condition 4 (wrongDisk m d) ∷ [])) rd
 
--- ---- a catalogue from which no layout is read
+-- ---- a catalogue that is refused, whatever the conditions past it
 
-module _ (v : Version) (cat : List ℕ) (lc : length cat ≡ v .bytes) (rd : readCatalogue v cat ≡ unsound) where
-  not-sound : (k : Layout → List Condition)
-      → firstRefusal (condition 1 (wrongCatalogue v cat) ∷ onLayout (readCatalogue v cat) k) ≡ refusal 3
-  unfolding firstRefusal
-  not-sound k =
-      let right : wrongCatalogue v cat ≡ false = ap not (eq-eqb (length cat) (v .bytes) lc) in
-      rw (right, rd)
+-- from which no layout is read
+pub not-sound : (v : Version) (cat : List ℕ) → length cat ≡ v .bytes → readCatalogue v cat ≡ unsound
+    → (k : Layout → List Condition)
+    → firstRefusal (condition 1 (wrongCatalogue v cat) ∷ onLayout (readCatalogue v cat) k) ≡ refusal 3
+unfolding firstRefusal
+not-sound v cat lc rd k =
+    let right : wrongCatalogue v cat ≡ false = ap not (eq-eqb (length cat) (v .bytes) lc) in
+    rw (right, rd)
 
-  pub add-unsound : (i : ℕ) (bs d : List ℕ) → addOutcome v i bs cat d ≡ outcome (refused 3) cat d []
+-- of another length
+pub wrong-length : (v : Version) (cat : List ℕ) → (length cat ≡ v .bytes → ⊥) → (k : Layout → List Condition)
+    → firstRefusal (condition 1 (wrongCatalogue v cat) ∷ onLayout (readCatalogue v cat) k) ≡ refusal 1
+unfolding firstRefusal
+wrong-length v cat lc k =
+    let wrong : wrongCatalogue v cat ≡ true = ap not (ne-eqb (length cat) (v .bytes) lc) in
+    rw wrong
+
+module _ (v : Version) (cat : List ℕ) (n : ℕ)
+    (shut : (k : Layout → List Condition)
+    → firstRefusal (condition 1 (wrongCatalogue v cat) ∷ onLayout (readCatalogue v cat) k) ≡ refusal n) where
+  pub add-refused : (i : ℕ) (bs d : List ℕ) → addOutcome v i bs cat d ≡ outcome (refused n) cat d []
   unfolding addOutcome
-  add-unsound i bs d =
+  add-refused i bs d =
       ap (λ j. unlessRefused j cat d [] (doAdd v i bs cat d (readCatalogue v cat)))
-      (not-sound (λ m. condition 4 (wrongDisk m d) ∷ addChecks i bs m))
+      (shut (λ m. condition 4 (wrongDisk m d) ∷ addChecks i bs m))
 
-  pub remove-unsound : (i : ℕ) (d : List ℕ) → removeOutcome v i cat d ≡ outcome (refused 3) cat d []
+  pub remove-refused : (i : ℕ) (d : List ℕ) → removeOutcome v i cat d ≡ outcome (refused n) cat d []
   unfolding removeOutcome
-  remove-unsound i d =
+  remove-refused i d =
       ap (λ j. unlessRefused j cat d [] (doRemove v i cat d (readCatalogue v cat)))
-      (not-sound (λ m. condition 4 (wrongDisk m d) ∷ fileChecks i m))
+      (shut (λ m. condition 4 (wrongDisk m d) ∷ fileChecks i m))
 
-  pub read-unsound : (i p : ℕ) (o d : List ℕ) → readOutcome v i p o cat d ≡ outcome (refused 3) cat d o
+  pub read-refused : (i p : ℕ) (o d : List ℕ) → readOutcome v i p o cat d ≡ outcome (refused n) cat d o
   unfolding readOutcome
-  read-unsound i p o d =
+  read-refused i p o d =
       ap (λ j. unlessRefused j cat d o (doRead i p o cat d (readCatalogue v cat)))
-      (not-sound (λ m. condition 4 (wrongDisk m d) ∷ readChecks i p o m))
+      (shut (λ m. condition 4 (wrongDisk m d) ∷ readChecks i p o m))
 
-  pub breaks-unsound : (i : ℕ) → breaksReply v i cat ≡ refused 3
+  pub breaks-refused : (i : ℕ) → breaksReply v i cat ≡ refused n
   unfolding breaksReply
-  breaks-unsound i = ap (λ j. replyUnless j (doBreaks i (readCatalogue v cat))) (not-sound (fileChecks i))
+  breaks-refused i = ap (λ j. replyUnless j (doBreaks i (readCatalogue v cat))) (shut (fileChecks i))
 
-  pub free-unsound : freeReply v cat ≡ refused 3
+  pub free-refused : freeReply v cat ≡ refused n
   unfolding freeReply
-  free-unsound = ap (λ j. replyUnless j (doFree (readCatalogue v cat))) (not-sound (λ l. []))
+  free-refused = ap (λ j. replyUnless j (doFree (readCatalogue v cat))) (shut (λ l. []))
 
-  pub check-unsound : (d : List ℕ) → checkReply v cat d ≡ refused 3
+  pub check-refused : (d : List ℕ) → checkReply v cat d ≡ refused n
   unfolding checkReply
-  check-unsound d =
-      ap (λ j. replyUnless j (doCheck (readCatalogue v cat))) (not-sound (λ m. condition 4 (wrongDisk m d) ∷ []))
-
--- ---- a catalogue buffer of another length
-
-module _ (v : Version) (cat : List ℕ) (lc : length cat ≡ v .bytes → ⊥) where
-  wrong-length : (cs : List Condition) → firstRefusal (condition 1 (wrongCatalogue v cat) ∷ cs) ≡ refusal 1
-  unfolding firstRefusal
-  wrong-length cs = let wrong : wrongCatalogue v cat ≡ true = ap not (ne-eqb (length cat) (v .bytes) lc) in rw wrong
-
-  pub add-wrong : (i : ℕ) (bs d : List ℕ) → addOutcome v i bs cat d ≡ outcome (refused 1) cat d []
-  unfolding addOutcome
-  add-wrong i bs d = ap (λ j. unlessRefused j cat d [] (doAdd v i bs cat d (readCatalogue v cat))) (wrong-length _)
-
-  pub remove-wrong : (i : ℕ) (d : List ℕ) → removeOutcome v i cat d ≡ outcome (refused 1) cat d []
-  unfolding removeOutcome
-  remove-wrong i d = ap (λ j. unlessRefused j cat d [] (doRemove v i cat d (readCatalogue v cat))) (wrong-length _)
-
-  pub read-wrong : (i p : ℕ) (o d : List ℕ) → readOutcome v i p o cat d ≡ outcome (refused 1) cat d o
-  unfolding readOutcome
-  read-wrong i p o d = ap (λ j. unlessRefused j cat d o (doRead i p o cat d (readCatalogue v cat))) (wrong-length _)
-
-  pub breaks-wrong : (i : ℕ) → breaksReply v i cat ≡ refused 1
-  unfolding breaksReply
-  breaks-wrong i = ap (λ j. replyUnless j (doBreaks i (readCatalogue v cat))) (wrong-length _)
-
-  pub free-wrong : freeReply v cat ≡ refused 1
-  unfolding freeReply
-  free-wrong = ap (λ j. replyUnless j (doFree (readCatalogue v cat))) (wrong-length _)
-
-  pub check-wrong : (d : List ℕ) → checkReply v cat d ≡ refused 1
-  unfolding checkReply
-  check-wrong d = ap (λ j. replyUnless j (doCheck (readCatalogue v cat))) (wrong-length _)
+  check-refused d =
+      ap (λ j. replyUnless j (doCheck (readCatalogue v cat))) (shut (λ m. condition 4 (wrongDisk m d) ∷ []))

@@ -1,68 +1,48 @@
 -- `event_disk::changing::add` meets its contract: each return has the outcome of the definition. Assumes nothing.
-use mathlib.Core.List.{List}
-use mathlib.Core.Path.{ap, sym}
+use mathlib.Core.List.{List, []}
+use mathlib.Core.Path.{_∙_, ap}
 use Prim.Native.Nat.{ℕ}
 use borrow.Author.Needs.{needs}
+use borrow.Author.Tests.{not-false, not-true}
 use Rattle.catalogue.specs.Version.{version1}
 use Rattle.table.specs.Tables.{layoutOf}
 use Rattle.manager.specs.Conditions.{Outcome}
 use Rattle.manager.specs.Outcomes.{addOutcome}
+use Rattle.looking.specs.Answers.{replyOf}
 use Rattle.calls.specs.Changing.{addOn}
-use Rattle.manager.proofs.OnRead.{add-on-read, add-unsound, add-wrong}
-use Rattle.event_disk.proofs.Opening.{answer-of, disk-of, kept-of, loaded-opened, loaded-sound}
-use Rattle.event_disk.proofs.Opening.{loaded-unsound, stored-of}
+use Rattle.manager.proofs.OnRead.{add-on-read, add-refused}
+use Rattle.event_disk.proofs.Entering.{made-catalogue, made-disk, made-reply, shut-out}
 use Rattle.event_disk.proofs.changing.add.Statement.{statement}
 use Rattle.event_disk.proofs.changing.add.Tie as tie
 
-returns : tie.Need-returns
-returns c =
-    let a = c .before .before .before .before in
-    let cat = a .args .cat .now in
-    let disk = a .args .disk .now in
-    let e = add-wrong version1 cat (c .if1 .taken) (a .args .id) (a .args .content .now) disk in
-    let answer = sym (ap (λ o. o .reply) e) in (
-      answer,
-      (
-        sym (ap (λ o. o .catalogue) e),
-        sym (ap (λ o. o .disk) e),
-      ),
-    )
-
-load-requires : tie.Need-load-requires
-load-requires c κs = search needs
+open-requires : tie.Need-open-requires
+open-requires c κs = search needs
 
 same-length : tie.Need-same-length
 same-length c = search needs
 
-returns-2 : tie.Need-returns-2
-returns-2 c =
-    let l = c .before .before in
-    let a = l .before .before .before .before .before .before in
+returns : tie.Need-returns
+returns c =
+    let o = c .before .before in
+    let a = o .before .before .before .before .before in
     let cat = a .args .cat .now in
     let disk = a .args .disk .now in
-    let bad = loaded-unsound cat (l .load .result) (l .load .ensures .0) (l .load .ensures .1 .exact) (c .if2 .taken) in
-    let e = add-unsound version1 cat (l .before .before .if1 .left) bad (a .args .id) (a .args .content .now) disk in
-    let answer = sym (ap (λ o. o .reply) e) in (
-      answer,
-      (
-        sym (ap (λ o. o .catalogue) e),
-        sym (ap (λ o. o .disk) e),
-      ),
-    )
+    let shut = o .«open» .ensures .shut (not-true _ (c .if1 .taken)) in
+    let e = add-refused version1 cat (shut .number) (shut .first) (a .args .id) (a .args .content .now) disk in
+    let s = shut-out cat disk [] (o .«open» .result .refusal) shut (addOutcome version1 (a .args .id) (a .args .content .now) cat disk) e in
+    (s .0, (s .1, s .2))
 
 add-in-requires : tie.Need-add-in-requires
 add-in-requires c κs =
-    let l = c .before .before .before .before in
-    loaded-opened (l .before .before .before .before .before .before .args .cat .now) (l .load .result) (l .load .ensures .0)
-    (l .load .ensures .1 .exact) (c .before .before .if2 .left)
+    let o = c .before .before .before .before in
+    o .«open» .ensures .entered (not-false _ (c .before .before .if1 .left)) .opened
 
-store-requires : tie.Need-store-requires
-store-requires c κs =
-    let r = c .before .before .before .before .before in
-    let changed = c .before .before .if3 .taken in (
-      r .before .before .before .before .before .before .before .if1 .left,
-      (r .add-in .ensures .sized, r .add-in .ensures .rules changed),
-    )
+store-changed-requires : tie.Need-store-changed-requires
+store-changed-requires c κs =
+    let r = c .before .before .before in
+    let o = r .before .before .before .before .before in
+    let entered = o .«open» .ensures .entered (not-false _ (r .before .before .before .if1 .left)) in
+    record { bytes = entered .bytes; sized = r .add-in .ensures .sized; rules = r .add-in .ensures .rules }
 
 same-length-2 : tie.Need-same-length-2
 same-length-2 c = search needs
@@ -70,70 +50,38 @@ same-length-2 c = search needs
 same-length-3 : tie.Need-same-length-3
 same-length-3 c = search needs
 
-returns-3 : tie.Need-returns-3
-returns-3 c =
-    let r = c .before .before .before .before .before .before .before .before in
-    let l = r .before .before .before .before .before in
-    let a = l .before .before .before .before .before .before in
+returns-2 : tie.Need-returns-2
+returns-2 c =
+    let s = c .before .before in
+    let r = s .before .before .before .before in
+    let o = r .before .before .before .before .before in
+    let a = o .before .before .before .before .before in
     let cat = a .args .cat .now in
     let disk = a .args .disk .now in
-    let n = l .load .result in
-    let good = loaded-sound cat n (l .load .ensures .0) (l .load .ensures .1 .exact) (r .before .before .before .if2 .left) in
-    let on = add-on-read version1 cat (layoutOf (n .table)) (l .before .before .if1 .left) good (a .args .id) (a .args .content .now) disk in
-    let past : List ℕ → Outcome = λ z. addOn (layoutOf (n .table)) (a .args .id) (a .args .content .now) z disk in
+    let entered = o .«open» .ensures .entered (not-false _ (r .before .before .before .if1 .left)) in
+    let l = layoutOf (o .«open» .result .table) in
+    let on = add-on-read version1 cat l (entered .bytes) (entered .reading) (a .args .id) (a .args .content .now) disk in
+    let past : List ℕ → Outcome = λ z. addOn l (a .args .id) (a .args .content .now) z disk in
     let full = addOutcome version1 (a .args .id) (a .args .content .now) cat disk in
+    let q = r .add-in .result in
     let d′ = r .add-in .last .0 in
+    let cat′ = s .store-changed .last .0 in
     let m = r .add-in .ensures in
-    let answer = answer-of past cat d′ (r .add-in .result) m full on in (
-      answer,
-      (
-        stored-of past cat d′ (r .add-in .result) m full on (c .before .before .store .last .0)
-            (c .before .before .before .before .before .if3 .taken) (c .before .before .store .ensures),
-        disk-of past cat d′ (r .add-in .result) m full on,
-      ),
-    )
-
-same-length-4 : tie.Need-same-length-4
-same-length-4 c = search needs
-
-same-length-5 : tie.Need-same-length-5
-same-length-5 c = search needs
-
-returns-4 : tie.Need-returns-4
-returns-4 c =
-    let r = c .before .before .before in
-    let l = r .before .before .before .before .before in
-    let a = l .before .before .before .before .before .before in
-    let cat = a .args .cat .now in
-    let disk = a .args .disk .now in
-    let n = l .load .result in
-    let good = loaded-sound cat n (l .load .ensures .0) (l .load .ensures .1 .exact) (r .before .before .before .if2 .left) in
-    let on = add-on-read version1 cat (layoutOf (n .table)) (l .before .before .if1 .left) good (a .args .id) (a .args .content .now) disk in
-    let past : List ℕ → Outcome = λ z. addOn (layoutOf (n .table)) (a .args .id) (a .args .content .now) z disk in
-    let full = addOutcome version1 (a .args .id) (a .args .content .now) cat disk in
-    let d′ = r .add-in .last .0 in
-    let m = r .add-in .ensures in
-    let answer = answer-of past cat d′ (r .add-in .result) m full on in (
-      answer,
-      (
-        kept-of past cat d′ (r .add-in .result) m full on (c .if3 .left),
-        disk-of past cat d′ (r .add-in .result) m full on,
-      ),
-    )
+    let st = s .store-changed .ensures .1 in
+    let answer = ap replyOf (s .store-changed .ensures .0) ∙ made-reply past cat cat′ d′ q m st full on in
+    let catalogue = made-catalogue past cat cat′ d′ q m st full on in
+    let after = made-disk past cat cat′ d′ q m st full on in
+    (answer, (catalogue, after))
 
 pub add-spec : {M : Type 1} → statement M
 add-spec =
     tie.close
     (tie.spec
-    returns
-    load-requires
+    open-requires
     same-length
-    returns-2
+    returns
     add-in-requires
-    store-requires
+    store-changed-requires
     same-length-2
     same-length-3
-    returns-3
-    same-length-4
-    same-length-5
-    returns-4)
+    returns-2)

@@ -1,11 +1,9 @@
 -- The pieces of a file one after another: the one at hand, those left, and the blocks of both. Assumes nothing.
-use mathlib.Core.List.{List, [], _++_, _∷_, map}
-use mathlib.Core.Path.{_∙_, _≡_, ap, ap₂, refl, subst, sym}
+use mathlib.Core.List.{List, _++_}
+use mathlib.Core.Path.{_∙_, _≡_, ap, refl, sym}
 use Prim.Native.Nat.{_*_, _+_, _-_, _<_, _^_, _≤_, suc, zero, ℕ}
-use native.Mathlib.Numerals.{add-one}
 use native.Mathlib.Omega.{arith}
-use lib.ListN.{List·getD-append, drop, drop-of-length-le, getD, length, length-map, length-take, take}
-use lib.Seq.{drop-cons, getD-take, length-take-le}
+use lib.ListN.{List·getD-append, drop, getD, length, length-take, take}
 use Rattle.blocks.proofs.DiskStoring.{getD-append-past}
 use Rattle.blocks.specs.DiskCode.{EntryFits, HasBlock, HasRun, PieceFits}
 use Rattle.layout.proofs.Lists.{each-append, each-imp}
@@ -15,26 +13,10 @@ use Rattle.layout.specs.Lists.{Each, done, more}
 use Rattle.section.specs.Limits.{blockSize, greatestDisk}
 use Rattle.section.specs.Sections.{endOf, lengthOf, section}
 use Rattle.section.specs.declared.Section.{Section}
+use Rattle.table.proofs.Arrays.{ahead, behind}
+use Rattle.table.proofs.EachItem.{each-get, each-taken}
 use Rattle.table.specs.Tables.{piecePlaces, piecesIn}
 use Rattle.table.specs.declared.Entry.{Entry}
-
-pub length-of-mapped : {X Y : Type 0} (f : X → Y) (l : List X) (n : ℕ) → length (map f l) ≡ n → length l ≡ n
-length-of-mapped f l n e = sym (length-map l f) ∙ e
-
-each-get : {A : Type 0} {P : A → Type 0} {l : List A} (i : ℕ) (d : A) → Each P l → i < length l → P (getD l i d)
-each-get i d done l = absurd (omega arith)
-each-get zero d (more p e) l = p
-each-get (suc i) d (more p e) l = each-get i d e (omega arith)
-
--- the first m of an array, from place j on
-module _ {A : Type 0} (p : List A) (m j : ℕ) (hm : m ≤ length p) where
-  pub ahead : (d : A) → j < m → drop j (take m p) ≡ getD p j d ∷ drop (j + 1) (take m p)
-  ahead d h =
-      drop-cons (take m p) j d (omega (arith, length-take-le m p hm))
-      ∙ ap₂ (λ x k. x ∷ drop k (take m p)) (getD-take m p j d h) (sym (add-one j))
-
-  pub behind : m ≤ j → drop j (take m p) ≡ []
-  behind h = drop-of-length-le (take m p) {i = j} (omega (arith, length-take-le m p hm))
 
 -- a section with nothing in it, where a list has to have one
 abbrev pub noSection : Section
@@ -42,17 +24,7 @@ noSection = section 0 0
 
 module _ (d : ℕ) (items : List Section) (m j : ℕ) (hm : m ≤ length items) (l : j < m) where
   pub piece-fits : Each (PieceFits d) (take m items) → PieceFits d (getD items j noSection)
-  piece-fits e =
-      subst (PieceFits d) (getD-take m items j noSection l)
-      (each-get j noSection e (omega (arith, length-take-le m items hm)))
-
-module _ (items : List Section) (m j : ℕ) (hm : m ≤ length items) where
-  pub count-here : j < m → blockCount (drop j (take m items))
-      ≡ lengthOf (getD items j noSection) + blockCount (drop (j + 1) (take m items))
-  count-here l = ap blockCount (ahead items m j hm noSection l)
-
-  pub count-end : m ≤ j → blockCount (drop j (take m items)) ≡ 0
-  count-end l = ap blockCount (behind items m j hm l)
+  piece-fits e = each-taken {P = PieceFits d} items m j noSection hm e l
 
 -- the pieces on a smaller disk are on a greater one
 pub entry-wider : (d c : ℕ) (e : Entry) → d ≤ c → c ≤ blockSize * greatestDisk → EntryFits d e → EntryFits c e

@@ -61,8 +61,3 @@ pub record Copied (d d′ : List ℕ) (l : List Copy) (n r : ℕ) : Type 0 where
   pub count : r ≡ length l
   pub most : r ≤ n
   pub same : length d′ ≡ length d
-
--- r is the number of the file's blocks
-pub record Sums (e : Entry) (r : ℕ) : Type 0 where
-  pub equal : r ≡ blockCount (piecesIn e)
-  pub most : r ≤ greatestDisk * piecePlaces

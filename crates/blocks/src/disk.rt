@@ -10,7 +10,7 @@ ghost use Rattle.layout.specs.Layout.{blockRun, blocksOf};
 ghost use Rattle.layout.specs.Removing.{copyRun, mergeCopies};
 ghost use Rattle.table.specs.Tables.{piecesIn};
 ghost use Rattle.manager.specs.Disk.{block, storeBlock, pagesOn, pageCount, cutPages, joinPages, writePages};
-ghost use Rattle.blocks.specs.DiskCode.{HasBlock, HasRun, MergeFits, EntryFits, WriteFits, ReadFits, Copied, Sums};
+ghost use Rattle.blocks.specs.DiskCode.{HasBlock, HasRun, MergeFits, EntryFits, WriteFits, ReadFits, Copied};
 use section::Section;
 use table::Entry;
 
@@ -57,24 +57,6 @@ pub fn copy_merge(disk: &mut [u8], lower: Section, upper: Section) -> u32
     let h = lower.height;
     let n = h.length();
     copy_run(disk, buddy.first, upper.first, n)
-}
-
-// The number of blocks of a file's pieces.
-pub fn sum_of_lengths(e: Entry) -> u32
-    requires { ⌜ EntryFits (blockSize * greatestDisk) e ⌝ }
-    ensures { λ r. ⌜ Sums e r ⌝ }
-{
-    let count = e.count;
-    let items = e.items;
-    let mut sum: u32 = 0;
-    let mut j: usize = 0;
-    while j < count {
-        let s = items[j];
-        let h = s.height;
-        sum += h.length();
-        j += 1;
-    }
-    sum
 }
 
 // Stores block `from` of `source` in block `to` of `target`.

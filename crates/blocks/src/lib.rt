@@ -5,5 +5,4 @@ pub use disk::copy_block;
 pub use disk::copy_merge;
 pub use disk::copy_run;
 pub use disk::read_pages;
-pub use disk::sum_of_lengths;
 pub use disk::write_pages;

@@ -11,11 +11,11 @@ use Rattle.layout.proofs.Allocating.{mod-digit}
 use Rattle.layout.proofs.Fresh.{fresh-sound}
 use Rattle.layout.proofs.Soundness.{sums-sound}
 use Rattle.layout.specs.Layout.{Layout, digit, freshLayout, piecesFrom}
-use Rattle.layout.specs.Lists.{Each, done, more}
 use Rattle.layout.specs.Sound.{Sound}
 use Rattle.section.specs.Limits.{greatestDisk, greatestHeight}
 use Rattle.section.specs.Sections.{section}
 use Rattle.section.specs.declared.Section.{Section}
+use Rattle.table.proofs.EachItem.{each-replicate}
 use Rattle.table.proofs.PiecesLaid.{pushed}
 use Rattle.table.specs.Tables.{InPlaces, filesOf, freeOf, layoutOf}
 use Rattle.table.specs.declared.Entry.{Entry}
@@ -74,10 +74,6 @@ pieces-end c h f e =
     sym (append-nil (freeOf f)) ∙ ap (λ k. freeOf f ++ piecesFrom k c (c - c % 2 ^ h)) (sym e)
 
 -- ---- the table
-
-each-replicate : {A : Type 0} {P : A → Type 0} (n : ℕ) (a : A) → P a → Each P (replicate n a)
-each-replicate zero a p = done
-each-replicate (suc n) a p = more p (each-replicate n a p)
 
 -- the entry of every place
 abbrev pub no-entry : Entry

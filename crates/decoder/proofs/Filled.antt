@@ -2,9 +2,9 @@
 use mathlib.Core.Bool.{false, true}
 use mathlib.Core.List.{List, map}
 use mathlib.Core.Path.{_∙_, _≡_, ap, sym}
-use Prim.Native.Nat.{_*_, _≤_, suc, zero, ℕ}
+use Prim.Native.Nat.{_*_, _≤_, ℕ}
 use native.Mathlib.Omega.{arith}
-use lib.ListN.{drop, length, replicate, set, take}
+use lib.ListN.{drop, length, take}
 use Rattle.catalogue.specs.Reading.{Read, bad, got}
 use Rattle.decoder.proofs.EntryRuns.{EntriesLeft, filesTo}
 use Rattle.decoder.proofs.Points.{false-true}
@@ -12,21 +12,11 @@ use Rattle.decoder.specs.Entries.{FilesAt, NoFiles, allAccepted, filesIn
 use Rattle.decoder.specs.Fields.{fieldValues}
 use Rattle.decoder.specs.declared.FilesRead.{FilesRead}
 use Rattle.layout.specs.Layout.{File, fileBlocks}
-use Rattle.layout.specs.Lists.{Each, done, more, sumOf}
+use Rattle.layout.specs.Lists.{Each, sumOf}
 use Rattle.section.proofs.Nested.{inside}
 use Rattle.section.specs.Limits.{mostFiles}
 use Rattle.table.specs.Tables.{InPlaces, fileOf}
 use Rattle.table.specs.declared.Entry.{Entry}
-
-pub each-set {ℓ κ} : {A : Type ℓ} {P : A → Type κ} (i : ℕ) (a : A) {l : List A} → P a → Each P l
-    → Each P (set l i a)
-each-set i a p done = done
-each-set zero a p (more q e) = more p e
-each-set (suc i) a p (more q e) = more q (each-set i a p e)
-
-pub each-replicate {ℓ κ} : {A : Type ℓ} {P : A → Type κ} (n : ℕ) (a : A) → P a → Each P (replicate n a)
-each-replicate zero a p = done
-each-replicate (suc n) a p = more p (each-replicate n a p)
 
 pub no-files-at : (s : List ℕ) (n : ℕ) (f : FilesRead) → allAccepted (EntriesLeft n (drop 6 s)) ≡ bad
     → NoFiles f

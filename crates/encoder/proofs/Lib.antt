@@ -1,6 +1,5 @@
 -- The laws of storing and loading, by subject.
 pub mod StoreWritten
 pub mod StoreLists
-pub mod StoreInsert
 pub mod StoreEntry
 pub mod StoreTable

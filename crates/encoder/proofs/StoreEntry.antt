@@ -7,14 +7,15 @@ use Rattle.section.specs.Sections.{lengthOf}
 use Rattle.section.specs.declared.Section.{Section}
 use Rattle.layout.proofs.Lists.{each-sort}
 use Rattle.layout.specs.Layout.{byFirst, fileBlocks}
-use Rattle.layout.specs.Lists.{sortBy}
+use Rattle.layout.specs.Lists.{Each, sortBy}
 use Rattle.table.specs.Free.{Lists}
 use Rattle.table.specs.Tables.{fileOf, freeOf, piecesIn}
 use Rattle.table.specs.declared.Entry.{Entry}
 use Rattle.table.specs.declared.Free.{Free}
 use Rattle.catalogue.proofs.Fields.{bigEndian-length}
 use Rattle.catalogue.specs.Encoding.{bigEndian, entryBytes, pairBytes, pairsBytes}
-use Rattle.encoder.specs.Store.{Low, LowEntry, Room, Written}
+use Rattle.pieces.specs.Pieces.{Low, LowEntry}
+use Rattle.encoder.specs.Store.{Room, Written}
 use Rattle.encoder.proofs.StoreWritten.{room-left, room-right, written-more}
 
 -- ---- a pair
@@ -39,8 +40,8 @@ module _ (e : Entry) (n : ℕ) (blocks : n ≡ fileBlocks (fileOf e)) (s : Free)
   entry-parts =
       ap₂ (λ m l. bigEndian 2 (e .id) ++ (bigEndian 2 m ++ pairsBytes 2 l)) (sym blocks) (sym (sorted .list))
 
-  pub sorted-low : LowEntry e → Low (freeOf s)
-  sorted-low h = subst Low (sym (sorted .list)) (each-sort byFirst (h .low))
+  pub sorted-low : LowEntry e → Each Low (freeOf s)
+  sorted-low h = subst (Each Low) (sym (sorted .list)) (each-sort byFirst (h .low))
 
 -- an entry's id has room
 pub entry-room : (e : Entry) (cat : List ℕ) (at : ℕ) → Room cat at (entryBytes 2 (fileOf e))

@@ -1,33 +1,13 @@
 -- Lists that are written element by element from an array. Assumes nothing.
-use mathlib.Core.List.{List, [], _++_, _∷_, append-assoc, map}
+use mathlib.Core.List.{List, [], _++_, _∷_, append-assoc}
 use mathlib.Core.Path.{_∙_, _≡_, ap, subst, sym}
-use Prim.Native.Nat.{_+_, _<_, _≤_, suc, zero, ℕ}
+use Prim.Native.Nat.{_+_, _<_, _≤_, suc, ℕ}
 use native.Mathlib.Numerals.{add-one}
 use native.Mathlib.Omega.{arith}
-use lib.ListN.{drop, getD, length, length-map, take, take-append-drop}
+use lib.ListN.{drop, getD, length, take, take-append-drop}
 use lib.Seq.{drop-cons, getD-take, length-take-le, take-suc, take-take}
-use Rattle.section.specs.Sections.{lengthOf}
-use Rattle.section.specs.declared.Section.{Section}
-use Rattle.layout.proofs.Lists.{sum-append}
-use Rattle.layout.specs.Layout.{blockCount}
-use Rattle.layout.specs.Lists.{Each, done, more}
 use Rattle.encoder.specs.Store.{Room, Written}
 use Rattle.encoder.proofs.StoreWritten.{append-none, room-left, room-right, written-more, written-none}
-
-pub length-of-mapped : {X Y : Type 0} (f : X → Y) (l : List X) (n : ℕ) → length (map f l) ≡ n → length l ≡ n
-length-of-mapped f l n e = sym (length-map l f) ∙ e
-
-each-at : {A : Type 0} {P : A → Type 0} {l : List A} → Each P l → (i : ℕ) (d : A) → i < length l → P (getD l i d)
-each-at done i d h = absurd (omega arith)
-each-at (more p e) zero d h = p
-each-at (more p e) (suc i) d h = each-at e i d (omega arith)
-
--- an element of the first n of an array
-pub each-taken : {A : Type 0} {P : A → Type 0} (p : List A) (n i : ℕ) (d : A) → n ≤ length p → i < n
-    → Each P (take n p)
-    → P (getD p i d)
-each-taken {A} {P} p n i d h k e =
-    subst P (getD-take n p i d k) (each-at e i d (omega (arith, length-take-le n p h)))
 
 -- ---- a list g l, made of the lists f a of its elements
 
@@ -77,13 +57,3 @@ module _ {A : Type 0} (f : A → List ℕ) (g : List A → List ℕ) (nil : g []
             ∙ ap (λ l. g (take i p) ++ l) (cons (getD p i d) [])
             ∙ ap (λ l. g (take i p) ++ (f (getD p i d) ++ l)) nil
             ∙ ap (λ l. g (take i p) ++ l) (append-none (f (getD p i d))))
-
--- ---- the sum of lengths
-
-pub blocks-more : (p : List Section) (d : Section) (i n : ℕ) → i < length p → n ≡ lengthOf (getD p i d)
-    → blockCount (take (i + 1) p) ≡ blockCount (take i p) + n
-blocks-more p d i n h e =
-    ap (λ k. blockCount (take k p)) (add-one i)
-    ∙ ap blockCount (take-suc p i d h)
-    ∙ sum-append lengthOf (take i p) (getD p i d ∷ [])
-    ∙ omega arith

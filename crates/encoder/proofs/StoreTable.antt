@@ -1,57 +1,20 @@
--- The bytes of a whole table: what a sound table gives, the room, and all parts together. Assumes nothing.
-use mathlib.Core.List.{List, [], _++_, _∷_}
+-- The bytes of a whole table: the room that a sound one has, and all parts together. Assumes nothing.
+use mathlib.Core.List.{List, _++_}
 use mathlib.Core.Path.{_∙_, _≡_, ap, ap₂, refl, sym}
-use Prim.Native.Nat.{_-_, _<_, _≤_, suc, zero, ℕ}
+use Prim.Native.Nat.{_-_, _≤_, ℕ}
 use native.Mathlib.Omega.{arith}
 use lib.ListN.{length, length-map, replicate, take}
 use lib.Seq.{length-take-le}
 use Rattle.section.specs.Limits.{catalogueSize}
-use Rattle.section.specs.declared.Section.{Section}
-use Rattle.layout.proofs.Lists.{each-and, each-imp, each-left, each-right, each-unmap}
-use Rattle.layout.specs.Layout.{File, filePieces}
-use Rattle.layout.specs.Lists.{Each, done, more}
 use Rattle.layout.specs.Sound.{Sound}
 use Rattle.table.specs.Tables.{Sized, fileOf, filesOf, freeOf, layoutOf}
-use Rattle.table.specs.declared.Entry.{Entry}
 use Rattle.table.specs.declared.Table.{Table}
 use Rattle.catalogue.proofs.Roomy.{version1-roomy}
 use Rattle.catalogue.proofs.Size.{used-most}
 use Rattle.catalogue.specs.Encoding.{bigEndian, encode, entriesBytes, headerBytes, pairsBytes, usedBytes}
 use Rattle.catalogue.specs.Version.{version1}
-use Rattle.encoder.specs.Store.{Low, LowFiles, Room, Written}
+use Rattle.encoder.specs.Store.{Room, Written}
 use Rattle.encoder.proofs.StoreWritten.{room-left, room-right, written-more}
-
-each-take : {A : Type 0} {P : A → Type 0} (n : ℕ) {l : List A} → Each P l → Each P (take n l)
-each-take zero e = done
-each-take (suc n) done = done
-each-take (suc n) (more p e) = more p (each-take n e)
-
-each-file : {P : Section → Type 0} (fs : List File) → Each P (filePieces fs)
-    → Each (λ (f : File). Each P (f .pieces)) fs
-unfolding filePieces
-each-file [] e = done
-each-file (f ∷ fs) e =
-    more {a = f} (each-left (f .pieces) (filePieces fs) e) (each-file fs (each-right (f .pieces) (filePieces fs) e))
-
--- every height of a sound table has a length
-module _ (t : Table) (sized : Sized t) (sound : Sound 13 (layoutOf t)) where
-  all-low : Low (filePieces (filesOf t) ++ freeOf (t .free))
-  unfolding layoutOf
-  all-low = each-imp (λ (s : Section) (h : s .height .value < 13). omega arith) (sound .heights)
-
-  pub free-low : Low (freeOf (t .free))
-  free-low = each-right (filePieces (filesOf t)) (freeOf (t .free)) all-low
-
-  pub files-low : LowFiles t
-  unfolding filesOf
-  files-low = record {
-    most = sized .files;
-    each =
-        each-imp (λ (e : Entry) p. record { places = p .0; low = p .1 })
-        (each-and (each-take (t .count) (sized .each))
-        (each-unmap fileOf (take (t .count) (t .files))
-        (each-file (filesOf t) (each-left (filePieces (filesOf t)) (freeOf (t .free)) all-low))));
-  }
 
 pub files-count : (t : Table) → Sized t → length (t .files) ≡ 64 → t .count ≡ length (filesOf t)
 unfolding filesOf

@@ -1,5 +1,4 @@
 // The bytes of a catalogue, from a table and back.
-mod pieces;
 mod storing;
 
 pub use storing::store;

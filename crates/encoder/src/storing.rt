@@ -1,6 +1,5 @@
 // A table stored as the bytes of a catalogue, front to back: each function writes its bytes from `at` on and answers
 // the position after them, and `clear` writes the zero bytes after the last.
-use crate::pieces;
 use section::Section;
 use table::Entry;
 use table::Free;
@@ -11,11 +10,13 @@ ghost use Prim.Native.Nat.{_-_, _≤_};
 ghost use lib.ListN.{length, replicate, take};
 ghost use Rattle.section.specs.Heights.{NoHigher};
 ghost use Rattle.section.specs.Limits.{catalogueSize};
+ghost use Rattle.layout.specs.Lists.{Each};
 ghost use Rattle.layout.specs.Sound.{Sound};
 ghost use Rattle.table.specs.Tables.{Sized, fileOf, filesOf, freeOf, freePlaces, layoutOf};
 ghost use Rattle.catalogue.specs.Encoding.{bigEndian, encode, entriesBytes, entryBytes, headerBytes, pairBytes, pairsBytes};
 ghost use Rattle.catalogue.specs.Version.{version1};
-ghost use Rattle.encoder.specs.Store.{Low, LowEntry, LowFiles, Room, Written};
+ghost use Rattle.pieces.specs.Pieces.{Low, LowEntry, LowFiles};
+ghost use Rattle.encoder.specs.Store.{Room, Written};
 
 // Writes a number in two bytes, the high one first.
 fn write_field(cat: &mut [u8], at: usize, value: u32) -> usize
@@ -43,7 +44,7 @@ fn write_pair(cat: &mut [u8], at: usize, s: Section) -> usize
 // Writes the pairs of a list.
 fn write_pairs(cat: &mut [u8], at: usize, l: Free) -> usize
     requires { ⌜ l .count ≤ freePlaces ⌝ }
-    requires { ⌜ Low (freeOf l) ⌝ }
+    requires { ⌜ Each Low (freeOf l) ⌝ }
     requires { ⌜ Room (now cat) at (pairsBytes 2 (freeOf l)) ⌝ }
     ensures { λ r. ⌜ Written (now (cat .entry)) at (pairsBytes 2 (freeOf l)) (now (cat .exit)) r ⌝ }
 {
@@ -65,8 +66,8 @@ fn write_entry(cat: &mut [u8], at: usize, e: Entry) -> usize
     ensures { λ r. ⌜ Written (now (cat .entry)) at (entryBytes 2 (fileOf e)) (now (cat .exit)) r ⌝ }
 {
     let after_id = write_field(cat, at, e.id);
-    let after_blocks = write_field(cat, after_id, pieces::file_blocks(e));
-    write_pairs(cat, after_blocks, pieces::sorted_pieces(e))
+    let after_blocks = write_field(cat, after_id, pieces::blocks_of(e));
+    write_pairs(cat, after_blocks, pieces::sorted(e))
 }
 
 // Writes the file entries.

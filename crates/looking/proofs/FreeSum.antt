@@ -1,18 +1,14 @@
--- The free blocks of a loaded table: its free pieces are on the disk, and their lengths sum to f. Assumes nothing.
+-- The free blocks of a loaded table: the lengths of its free pieces sum to f. Assumes nothing.
 use mathlib.Core.Path.{_≡_}
-use Prim.Native.Nat.{_*_, _≤_}
+use Prim.Native.Nat.{_≤_}
 use native.Mathlib.Omega.{arith}
 use lib.ListN.{take}
-use Rattle.blocks.proofs.DiskFits.{entry-on-disk}
-use Rattle.blocks.specs.DiskCode.{PieceFits}
 use Rattle.looking.specs.Opened.{Opened}
 use Rattle.layout.proofs.SoundSums.{SoundSums}
 use Rattle.layout.proofs.Soundness.{sound-sums}
 use Rattle.layout.specs.Layout.{blockCount, freeBlocks}
-use Rattle.layout.specs.Lists.{Each}
-use Rattle.section.specs.Limits.{blockSize, greatestDisk}
+use Rattle.section.specs.Limits.{greatestDisk}
 use Rattle.table.proofs.SoundStock.{sound-stocked}
-use Rattle.table.proofs.TableSteps.{few-free}
 use Rattle.table.specs.Tables.{freeOf, layoutOf}
 use Rattle.table.specs.Taking.{Stocked}
 use Rattle.table.specs.declared.Table.{Table}
@@ -23,14 +19,6 @@ module _ (t : Table) (o : Opened t) where
 
   pub opened-stocked : Stocked (t .free)
   opened-stocked = sound-stocked t (o .rules) (o .sized .free) (o .free)
-
-  -- the free pieces, as the code has them
-  pub free-pieces : Each (PieceFits (blockSize * greatestDisk)) (take (t .free .count) (t .free .items))
-  unfolding freeOf
-  free-pieces =
-      entry-on-disk greatestDisk (record { id = 0; count = t .free .count; items = t .free .items }) (omega arith)
-      (few-free t opened-sums (o .free)) (opened-stocked .disk)
-      .pieces
 
   pub free-blocks : blockCount (take (t .free .count) (t .free .items)) ≡ freeBlocks (layoutOf t)
   unfolding layoutOf freeOf

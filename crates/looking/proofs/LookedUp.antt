@@ -8,26 +8,22 @@ use Rattle.blocks.proofs.DiskFits.{entry-on-disk}
 use Rattle.blocks.specs.DiskCode.{EntryFits}
 use Rattle.looking.specs.Opened.{Opened}
 use Rattle.layout.proofs.Finding.{Find, find-each, found-find, here, there}
-use Rattle.layout.proofs.Lists.{each-imp, each-left}
-use Rattle.layout.proofs.Ranges.{within}
+use Rattle.layout.proofs.Lists.{each-left}
 use Rattle.layout.specs.Layout.{File, OnDisk, blockCount, fileBlocks, filePieces, findFile, found, missing}
 use Rattle.layout.specs.Lists.{Each, more}
 use Rattle.section.specs.Limits.{blockSize, greatestDisk}
-use Rattle.section.specs.declared.Section.{Section}
-use Rattle.table.proofs.EachItem.{each-get}
+use Rattle.table.proofs.EachItem.{each-get, each-taken}
 use Rattle.table.proofs.Released.{find-at, find-none}
 use Rattle.table.specs.Files.{entryAt, hasId, noEntry}
 use Rattle.table.specs.Places.{IsPlace, firstPlace}
 use Rattle.table.specs.Tables.{InPlaces, fileOf, filesOf, layoutOf, piecePlaces, piecesIn}
 use Rattle.table.specs.declared.Table.{Table}
+use Rattle.pieces.proofs.SoundPieces.{files-low}
+use Rattle.pieces.specs.Pieces.{LowEntry}
 
 find-every : {i : ℕ} {l r : List File} {f : File} {P : File → Type 0} → Find i l f r → Each P l → P f
 find-every (here e) (more p q) = p
 find-every (there n x) (more p q) = find-every x q
-
--- a disk of more blocks has the section too
-wider : (c c′ : ℕ) (s : Section) → c ≤ c′ → OnDisk c s → OnDisk c′ s
-wider c c′ s le o = record { aligned = o .aligned; within = omega (arith, o .within) }
 
 module _ (t : Table) (opened : Opened t) (id i : ℕ)
     (place : IsPlace (t .count) (firstPlace (hasId id) (filesOf t)) i) where
@@ -70,7 +66,8 @@ module _ (t : Table) (opened : Opened t) (id i : ℕ)
     pub looked-fits : EntryFits (blockSize * t .blocks) (entryAt t i)
     looked-fits = entry-on-disk (t .blocks) (entryAt t i) small looked-count looked-disk
 
-    pub looked-greatest : EntryFits (blockSize * greatestDisk) (entryAt t i)
-    looked-greatest =
-        entry-on-disk greatestDisk (entryAt t i) (omega arith) looked-count
-        (each-imp (λ s p. wider (t .blocks) greatestDisk s small p) looked-disk)
+    -- what the sum of its lengths asks for
+    pub looked-low : LowEntry (entryAt t i)
+    looked-low =
+        each-taken {P = LowEntry} (t .files) (t .count) i noEntry room
+        (files-low t (opened .sized) (opened .rules) .each) looked-place

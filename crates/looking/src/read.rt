@@ -35,7 +35,7 @@ pub fn read_in(disk: &[u8], t: Table, id: u16, first: u64, out: &mut [u8]) -> An
     }
     let files = t.files;
     let e = files[i];
-    let n = blocks::sum_of_lengths(e) as usize;
+    let n = pieces::blocks_of(e) as usize;
     let count = out.len() / Section::BLOCK_SIZE;
     if count > n {
         return Answer::PastEnd;

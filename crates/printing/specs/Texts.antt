@@ -1,15 +1,11 @@
 -- What the functions that write text promise: bytes after those that stand already. Definitions only.
 use mathlib.Core.List.{List, _++_}
 use mathlib.Core.Path.{_≡_}
-use Prim.Native.Nat.{ℕ, _+_, _*_, _^_, _≤_}
+use Prim.Native.Nat.{ℕ, _+_, _*_, _≤_}
 use lib.ListN.{length, take}
-use Rattle.section.specs.Heights.{NoHigher}
-use Rattle.section.specs.Limits.{greatestHeight, mostFiles}
-use Rattle.section.specs.declared.Section.{Section}
-use Rattle.layout.specs.Layout.{File}
-use Rattle.layout.specs.Lists.{Each}
-use Rattle.table.specs.Tables.{piecePlaces}
+use Rattle.section.specs.Limits.{mostFiles}
 use Rattle.manager.specs.Printing.{decimal, lineEnd}
+use Rattle.pieces.specs.Pieces.{mostOfFile}
 
 -- the bytes of a buffer that surely hold the text of a catalogue
 abbrev pub textRoom : ℕ
@@ -33,25 +29,9 @@ pub record Appends (at : ℕ) (text out out′ : List ℕ) (r : ℕ) : Type 0 wh
 abbrev pub lineOf : List ℕ → ℕ → List ℕ → ℕ → List ℕ
 lineOf start m middle n = start ++ (decimal m ++ (middle ++ (decimal n ++ lineEnd)))
 
--- ---- numbers that the functions serve
-
-abbrev pub Low : Section → Type 0
-Low s = NoHigher (s .height)
-
-abbrev pub LowPieces : File → Type 0
-LowPieces f = Each Low (f .pieces)
-
--- the most blocks that the pieces of a file can have, and those of a table's files
-abbrev pub mostOfFile : ℕ
-mostOfFile = piecePlaces * 2 ^ greatestHeight
-
+-- the most blocks that the files of a table can have
 abbrev pub mostOfFiles : ℕ
 mostOfFiles = mostFiles * mostOfFile
-
--- r is the sum n, and at most m
-pub record IsSum (n m r : ℕ) : Type 0 where
-  pub equal : r ≡ n
-  pub most : r ≤ m
 
 -- the first r bytes of out are the text
 pub record Prints (text out : List ℕ) (r : ℕ) : Type 0 where

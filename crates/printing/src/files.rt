@@ -1,38 +1,19 @@
 // Files: their blocks, and their lines.
 ghost use Prim.Native.Nat.{_≤_};
-ghost use Rattle.layout.specs.Lists.{Each, sumOf};
+ghost use Rattle.layout.specs.Lists.{sumOf};
 ghost use Rattle.layout.specs.Layout.{fileBlocks};
 ghost use Rattle.manager.specs.Printing.{fileLines, allFileLines, firstLine};
-ghost use Rattle.table.specs.Tables.{piecePlaces, fileOf, filesOf, layoutOf, Sized};
-ghost use Rattle.printing.specs.Texts.{Room, Appends, LowPieces, IsSum, mostOfFile, mostOfFiles};
+ghost use Rattle.table.specs.Tables.{fileOf, filesOf, layoutOf};
+ghost use Rattle.pieces.specs.Pieces.{IsSum, LowEntry, LowFiles};
+ghost use Rattle.printing.specs.Texts.{Room, Appends, mostOfFiles};
 use crate::pairs;
 use crate::text;
 use table::Entry;
 use table::Table;
 
-// The blocks of a file, n.
-pub fn blocks_of(e: Entry) -> u32
-    requires places { ⌜ e .count ≤ piecePlaces ⌝ }
-    requires low { ⌜ LowPieces (fileOf e) ⌝ }
-    ensures { λ r. ⌜ IsSum (fileBlocks (fileOf e)) mostOfFile r ⌝ }
-{
-    let m = e.count;
-    let items = e.items;
-    let mut sum: u32 = 0;
-    let mut j: usize = 0;
-    while j < m {
-        let s = items[j];
-        let h = s.height;
-        sum += h.length();
-        j += 1;
-    }
-    sum
-}
-
 // The blocks of all files.
 pub fn blocks_of_files(t: Table) -> u32
-    requires places { ⌜ Sized t ⌝ }
-    requires low { ⌜ Each LowPieces (filesOf t) ⌝ }
+    requires low { ⌜ LowFiles t ⌝ }
     ensures { λ r. ⌜ IsSum (sumOf fileBlocks (filesOf t)) mostOfFiles r ⌝ }
 {
     let m = t.count;
@@ -40,7 +21,7 @@ pub fn blocks_of_files(t: Table) -> u32
     let mut sum: u32 = 0;
     let mut i: usize = 0;
     while i < m {
-        sum += blocks_of(files[i]);
+        sum += pieces::blocks_of(files[i]);
         i += 1;
     }
     sum
@@ -48,21 +29,19 @@ pub fn blocks_of_files(t: Table) -> u32
 
 // Writes a file line and the file's pairs.
 pub fn write_file(out: &mut [u8], at: usize, e: Entry) -> usize
-    requires places { ⌜ e .count ≤ piecePlaces ⌝ }
-    requires low { ⌜ LowPieces (fileOf e) ⌝ }
+    requires low { ⌜ LowEntry e ⌝ }
     requires room { ⌜ Room at (fileLines (fileOf e)) (now out) ⌝ }
     ensures { λ r. ⌜ Appends at (fileLines (fileOf e)) (now (out .entry)) (now (out .exit)) r ⌝ }
 {
-    let n = blocks_of(e);
-    let list = pairs::sorted(e);
+    let n = pieces::blocks_of(e);
+    let list = pieces::sorted(e);
     let next = text::write_line(out, at, b"file ", e.id, b" blocks ", n);
     pairs::write_pairs(out, next, list)
 }
 
 // Writes every file.
 pub fn write_files(out: &mut [u8], at: usize, t: Table) -> usize
-    requires places { ⌜ Sized t ⌝ }
-    requires low { ⌜ Each LowPieces (filesOf t) ⌝ }
+    requires low { ⌜ LowFiles t ⌝ }
     requires room { ⌜ Room at (allFileLines (filesOf t)) (now out) ⌝ }
     ensures { λ r. ⌜ Appends at (allFileLines (filesOf t)) (now (out .entry)) (now (out .exit)) r ⌝ }
 {
@@ -79,8 +58,7 @@ pub fn write_files(out: &mut [u8], at: usize, t: Table) -> usize
 
 // Writes the first line: the disk's blocks and the free ones.
 pub fn write_first_line(out: &mut [u8], at: usize, t: Table) -> usize
-    requires places { ⌜ Sized t ⌝ }
-    requires low { ⌜ Each LowPieces (filesOf t) ⌝ }
+    requires low { ⌜ LowFiles t ⌝ }
     requires fit { ⌜ sumOf fileBlocks (filesOf t) ≤ t .blocks ⌝ }
     requires room { ⌜ Room at (firstLine (layoutOf t)) (now out) ⌝ }
     ensures { λ r. ⌜ Appends at (firstLine (layoutOf t)) (now (out .entry)) (now (out .exit)) r ⌝ }

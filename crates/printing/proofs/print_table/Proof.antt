@@ -4,7 +4,8 @@ use native.Mathlib.Omega.{arith}
 use borrow.Author.Needs.{needs}
 use Rattle.manager.specs.Printing.{layoutText}
 use Rattle.table.specs.Tables.{layoutOf}
-use Rattle.printing.proofs.SoundTables.{files-fit, low-files, low-free, table-room}
+use Rattle.pieces.proofs.SoundPieces.{files-low, free-low}
+use Rattle.printing.proofs.SoundTables.{files-fit, table-room}
 use Rattle.printing.proofs.TextRoom.{text-size}
 use Rattle.printing.proofs.Writing.{joined, prints}
 use Rattle.printing.proofs.print_table.Statement.{statement}
@@ -16,11 +17,8 @@ write-first-line-requires c κs =
     let p = c .before .before .pre in
     let t = c .before .before .args .t in
     let r = table-room t (p .0) (p .1 .0) (c .before .before .args .out .now) (p .1 .1) in (
-      p .0,
-      (
-        low-files t (p .0) (p .1 .0),
-        (files-fit t (p .0) (p .1 .0), record { fits = omega (arith, text-size (layoutOf t)) }),
-      ),
+      files-low t (p .0) (p .1 .0),
+      (files-fit t (p .0) (p .1 .0), record { fits = omega (arith, text-size (layoutOf t)) }),
     )
 
 write-files-requires : tie.Need-write-files-requires
@@ -30,7 +28,7 @@ write-files-requires c κs =
     let t = c .before .before .before .before .before .before .args .t in
     let r =
     table-room t (p .0) (p .1 .0) (c .before .before .before .before .before .before .args .out .now) (p .1 .1) in
-    (p .0, (low-files t (p .0) (p .1 .0), record { fits = omega (arith, text-size (layoutOf t)) }))
+    (files-low t (p .0) (p .1 .0), record { fits = omega (arith, text-size (layoutOf t)) })
 
 slice-aggregate-write-bytes : tie.Need-slice-aggregate-write-bytes
 slice-aggregate-write-bytes c = search needs
@@ -56,7 +54,7 @@ write-pairs-requires c κs =
     (c .before .before .before .before .before .before .before .before .before .before .before .before .before
     .before .before .args .out .now)
     (p .1 .1) in
-    (p .0 .free, (low-free t (p .0) (p .1 .0), record { fits = omega (arith, text-size (layoutOf t)) }))
+    (p .0 .free, (free-low t (p .0) (p .1 .0), record { fits = omega (arith, text-size (layoutOf t)) }))
 
 same-length : tie.Need-same-length
 same-length c = search needs

@@ -7,9 +7,10 @@ use Prim.Native.Nat.{_*_, _-_, _≤_}
 use native.Mathlib.Omega.{arith}
 use lib.ListN.{drop, getD, length, take}
 use borrow.Author.Needs.{needs}
-use Rattle.blocks.proofs.DiskPieces.{length-of-mapped, page-here, page-later, page-none, piece-fits}
+use Rattle.blocks.proofs.DiskPieces.{page-here, page-later, page-none, piece-fits}
 use Rattle.layout.specs.Layout.{blocksOf}
 use Rattle.section.specs.Limits.{blockSize, greatestDisk}
+use Rattle.table.proofs.Arrays.{length-of-mapped}
 use Rattle.table.specs.Tables.{piecePlaces}
 use Rattle.blocks.proofs.disk.block_of_page.Statement.{statement}
 use Rattle.blocks.proofs.disk.block_of_page.Tie as tie

@@ -5,11 +5,13 @@ use Prim.Native.Nat.{_*_, _+_, _-_, _≤_}
 use native.Mathlib.Omega.{arith}
 use lib.ListN.{drop, getD, length, take}
 use borrow.Author.Needs.{needs}
-use Rattle.blocks.proofs.DiskPieces.{ahead, behind, count-here, length-of-mapped, noSection, piece-fits}
+use Rattle.blocks.proofs.DiskPieces.{noSection, piece-fits}
 use Rattle.blocks.proofs.DiskWriting.{left-all, left-end, left-more, leftOver}
 use Rattle.layout.specs.Layout.{blockCount}
 use Rattle.section.specs.Limits.{blockSize}
+use Rattle.table.proofs.Arrays.{ahead, behind, length-of-mapped}
 use Rattle.table.specs.Tables.{piecePlaces}
+use Rattle.pieces.proofs.PieceCounts.{count-here}
 use Rattle.blocks.proofs.disk.write_pages.Statement.{statement}
 use Rattle.blocks.proofs.disk.write_pages.Tie as tie
 

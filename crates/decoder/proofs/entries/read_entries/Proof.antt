@@ -9,12 +9,13 @@ use borrow.Author.Tests.{not-true, not-false}
 use Rattle.section.specs.Limits.{catalogueSize, mostFiles}
 use Rattle.layout.specs.Lists.{Each, sumOf}
 use Rattle.layout.specs.Layout.{fileBlocks}
+use Rattle.table.proofs.EachItem.{each-replicate, each-set}
 use Rattle.table.specs.Tables.{InPlaces}
 use Rattle.decoder.specs.Fields.{fieldValues}
 use Rattle.decoder.specs.Entries.{allAccepted}
 use Rattle.decoder.proofs.EntryRuns.{EntriesLeft, FilesLeft, entry-inside, files-bad, files-end, files-more}
 use Rattle.decoder.proofs.EntryRuns.{files-start, files-sum, filesTo}
-use Rattle.decoder.proofs.Filled.{each-replicate, each-set, no-files-at, some-files-at}
+use Rattle.decoder.proofs.Filled.{no-files-at, some-files-at}
 use Rattle.decoder.proofs.entries.read_entries.Statement.{statement}
 use Rattle.decoder.proofs.entries.read_entries.Tie as tie
 
@@ -113,7 +114,7 @@ loop-again c =
       omega (arith, e .ensures .most),
       ap₂ (λ m n. m + n) (v .6) (e .ensures .pages)
           ∙ sym (files-sum (b .loop .files) (b .loop .i) (e .result .entry) l),
-      each-set (b .loop .i) (e .result .entry) (e .ensures .places) (v .7),
+      each-set (b .loop .i) (e .result .entry) (v .7) (e .ensures .places),
       files-more (a .cat .now) (a .count) (b .loop .at) (b .loop .i) (b .loop .files)
           (c .before .before .before .before .before .before .before .loop-test .taken) _ (e .ensures)
           (not-false _ (c .before .before .before .if1 .left)) l

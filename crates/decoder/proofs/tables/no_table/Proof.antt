@@ -2,7 +2,7 @@
 use mathlib.Core.Path.{refl}
 use native.Mathlib.Omega.{arith}
 use borrow.Author.Needs.{needs}
-use Rattle.decoder.proofs.Filled.{each-replicate}
+use Rattle.table.proofs.EachItem.{each-replicate}
 use Rattle.table.specs.Tables.{filesOf, freeOf}
 use Rattle.decoder.proofs.tables.no_table.Statement.{statement}
 use Rattle.decoder.proofs.tables.no_table.Tie as tie

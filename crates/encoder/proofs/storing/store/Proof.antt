@@ -1,7 +1,7 @@
 -- `encoder::storing::store` meets its contract: the parts, one after another, and zero bytes. Assumes nothing.
 use borrow.Author.Needs.{needs}
-use Rattle.encoder.proofs.StoreTable.{end-room, files-low, files-room, free-low, free-room, header-room}
-use Rattle.encoder.proofs.StoreTable.{stored}
+use Rattle.pieces.proofs.SoundPieces.{files-low, free-low}
+use Rattle.encoder.proofs.StoreTable.{end-room, files-room, free-room, header-room, stored}
 use Rattle.encoder.proofs.storing.store.Statement.{statement}
 use Rattle.encoder.proofs.storing.store.Tie as tie
 

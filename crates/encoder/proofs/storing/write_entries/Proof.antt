@@ -5,11 +5,13 @@ use Prim.Native.Nat.{_-_, _≤_}
 use native.Mathlib.Omega.{arith}
 use lib.ListN.{length, take}
 use borrow.Author.Needs.{needs}
+use Rattle.table.proofs.Arrays.{length-of-mapped}
+use Rattle.table.proofs.EachItem.{each-taken}
 use Rattle.table.specs.Tables.{fileOf, filesOf}
 use Rattle.table.specs.declared.Entry.{Entry}
 use Rattle.catalogue.specs.Encoding.{entriesBytes, entryBytes}
 use Rattle.encoder.specs.Store.{Written}
-use Rattle.encoder.proofs.StoreLists.{each-taken, length-of-mapped, list-more, list-none, list-room}
+use Rattle.encoder.proofs.StoreLists.{list-more, list-none, list-room}
 use Rattle.encoder.proofs.storing.write_entries.Statement.{statement}
 use Rattle.encoder.proofs.storing.write_entries.Tie as tie
 
@@ -41,7 +43,8 @@ write-entry-requires c κs =
     let s = c .before .before .before .before .before in
     let l = c .before .before .before .loop in
     let n : length (s .args .t3 .files) ≡ 64 = search (needs, length-of-mapped) in (
-      each-taken (s .args .t3 .files) (s .args .t3 .count) _ _ (omega arith) (omega arith) (s .pre .0 .each),
+      each-taken (s .args .t3 .files) (s .args .t3 .count) _ _ (omega arith) (s .pre .0 .each)
+          (omega arith),
       list-room (λ (e : Entry). entryBytes 2 (fileOf e)) (λ l. entriesBytes 2 (map fileOf l)) refl (λ a l. refl)
           (s .args .t3 .files) _ (s .args .cat .now) (l .cat) (s .args .at) (s .args .t3 .count) (l .i) (l .next)
           (omega arith) (omega arith) (s .pre .1) (l .inv .2),

@@ -15,32 +15,32 @@ write-field-requires c κs =
     let s = c .before .before in
     entry-room (s .args .e) (s .args .cat .now) (s .args .at) (s .pre .1)
 
-file-blocks-requires : tie.Need-file-blocks-requires
-file-blocks-requires c κs = search needs
+blocks-of-requires : tie.Need-blocks-of-requires
+blocks-of-requires c κs = search needs
 
 write-field-requires-2 : tie.Need-write-field-requires-2
 write-field-requires-2 c κs =
     let s = c .before .before .before .before .before .before .before in
     let e = s .args .e in
     let w = c .before .before .before .before .write-field in
-    rw (c .file-blocks .ensures)
+    rw (c .blocks-of .ensures .equal)
     (room-left (w .last .0) (bigEndian 2 (fileBlocks (fileOf e))) (pairsBytes 2 (sortBy byFirst (piecesIn e)))
     (w .result) (entry-room-rest e (s .pre .1) (w .ensures)))
 
-sorted-pieces-requires : tie.Need-sorted-pieces-requires
-sorted-pieces-requires c κs = search needs
+sorted-requires : tie.Need-sorted-requires
+sorted-requires c κs = search needs
 
 write-pairs-requires : tie.Need-write-pairs-requires
 write-pairs-requires c κs =
     let s = c .before .before .before .before .before .before .before .before .before .before .before .before in
     let e = s .args .e in
     let w = c .before .before .before .before .before .before .before .before .before .write-field .ensures in
-    let n = c .before .before .before .before .before .file-blocks in
-    let v = rw (n .ensures) at (c .before .before .before .before .write-field2 .ensures) in
-    let q = c .sorted-pieces in (
+    let n = c .before .before .before .before .before .blocks-of in
+    let v = rw (n .ensures .equal) at (c .before .before .before .before .write-field2 .ensures) in
+    let q = c .sorted in (
       omega (arith, q .ensures .count, s .pre .0 .places),
       (
-        sorted-low e (n .result) (n .ensures) (q .result) (q .ensures) (s .pre .0),
+        sorted-low e (n .result) (n .ensures .equal) (q .result) (q .ensures) (s .pre .0),
         rw (q .ensures .list)
             (room-right (bigEndian 2 (fileBlocks (fileOf e))) (pairsBytes 2 (sortBy byFirst (piecesIn e))) v
             (entry-room-rest e (s .pre .1) w)),
@@ -54,9 +54,9 @@ returns : tie.Need-returns
 returns c =
     let s = c .before .before .before .before .before .before .before .before .before .before .before .before
     .before .before .before in
-    let n = c .before .before .before .before .before .before .before .before .file-blocks in
-    let q = c .before .before .before .sorted-pieces in
-    rw (entry-parts (s .args .e) (n .result) (n .ensures) (q .result) (q .ensures))
+    let n = c .before .before .before .before .before .before .before .before .blocks-of in
+    let q = c .before .before .before .sorted in
+    rw (entry-parts (s .args .e) (n .result) (n .ensures .equal) (q .result) (q .ensures))
     (written-more
     (c .before .before .before .before .before .before .before .before .before .before .before .before .write-field
     .ensures)
@@ -68,9 +68,9 @@ write-entry-spec =
     tie.close
     (tie.spec
     write-field-requires
-    file-blocks-requires
+    blocks-of-requires
     write-field-requires-2
-    sorted-pieces-requires
+    sorted-requires
     write-pairs-requires
     same-length
     returns)

@@ -3,7 +3,7 @@ use mathlib.Core.Path.{_≡_, refl}
 use lib.ListN.{length}
 use borrow.Author.Needs.{needs}
 use Rattle.table.specs.Tables.{filesOf}
-use Rattle.encoder.proofs.StoreLists.{length-of-mapped}
+use Rattle.table.proofs.Arrays.{length-of-mapped}
 use Rattle.encoder.proofs.StoreTable.{blocks-room, count-room, files-count, header-written, version-room}
 use Rattle.encoder.proofs.storing.write_header.Statement.{statement}
 use Rattle.encoder.proofs.storing.write_header.Tie as tie

@@ -4,10 +4,12 @@ use Prim.Native.Nat.{_-_, _≤_}
 use native.Mathlib.Omega.{arith}
 use lib.ListN.{length, take}
 use borrow.Author.Needs.{needs}
+use Rattle.table.proofs.Arrays.{length-of-mapped}
+use Rattle.table.proofs.EachItem.{each-taken}
 use Rattle.table.specs.Tables.{freeOf}
 use Rattle.catalogue.specs.Encoding.{pairBytes, pairsBytes}
 use Rattle.encoder.specs.Store.{Written}
-use Rattle.encoder.proofs.StoreLists.{each-taken, length-of-mapped, list-more, list-none, list-room}
+use Rattle.encoder.proofs.StoreLists.{list-more, list-none, list-room}
 use Rattle.encoder.proofs.storing.write_pairs.Statement.{statement}
 use Rattle.encoder.proofs.storing.write_pairs.Tie as tie
 
@@ -39,7 +41,8 @@ write-pair-requires c κs =
     let s = c .before .before .before .before .before in
     let l = c .before .before .before .loop in
     let n : length (s .args .t3 .items) ≡ 26 = search (needs, length-of-mapped) in (
-      each-taken (s .args .t3 .items) (s .args .t3 .count) _ _ (omega arith) (omega arith) (s .pre .1 .0),
+      each-taken (s .args .t3 .items) (s .args .t3 .count) _ _ (omega arith) (s .pre .1 .0)
+          (omega arith),
       list-room (pairBytes 2) (pairsBytes 2) refl (λ a l. refl) (s .args .t3 .items) _ (s .args .cat .now) (l .cat)
           (s .args .at) (s .args .t3 .count) (l .i) (l .next) (omega arith) (omega arith) (s .pre .1 .1)
           (l .inv .2),

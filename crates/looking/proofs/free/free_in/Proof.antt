@@ -1,15 +1,20 @@
--- `calls::free::free_in` adds up the lengths of the free pieces: what is added and the blocks of those left are all
+-- `looking::free::free_in` adds up the lengths of the free pieces: what is added and the blocks of those left are all
 -- free blocks. Assumes nothing.
 use mathlib.Core.Path.{_≡_}
-use Prim.Native.Nat.{_*_, _+_, _-_, _≤_}
+use Prim.Native.Nat.{_+_, _-_, _≤_}
 use native.Mathlib.Omega.{arith}
 use lib.ListN.{drop, length, take}
 use borrow.Author.Needs.{needs}
-use Rattle.blocks.proofs.DiskPieces.{count-end, count-here, length-of-mapped, piece-fits}
 use Rattle.layout.specs.Layout.{blockCount}
-use Rattle.section.specs.Limits.{blockSize, greatestDisk}
-use Rattle.table.specs.Tables.{freePlaces}
-use Rattle.looking.proofs.FreeSum.{free-blocks, free-most, free-pieces}
+use Rattle.section.specs.Limits.{greatestDisk}
+use Rattle.section.specs.Sections.{section}
+use Rattle.table.proofs.Arrays.{length-of-mapped}
+use Rattle.table.proofs.EachItem.{each-taken}
+use Rattle.table.specs.Tables.{freeOf, freePlaces}
+use Rattle.pieces.proofs.PieceCounts.{count-end, count-here}
+use Rattle.pieces.proofs.SoundPieces.{free-low}
+use Rattle.pieces.specs.Pieces.{Low}
+use Rattle.looking.proofs.FreeSum.{free-blocks, free-most}
 use Rattle.looking.proofs.free.free_in.Statement.{statement}
 use Rattle.looking.proofs.free.free_in.Tie as tie
 
@@ -36,13 +41,13 @@ array-copy-out-s : tie.Need-array-copy-out-s Inv-loop μ-loop
 array-copy-out-s c = search needs
 
 length-requires : tie.Need-length-requires Inv-loop μ-loop
+unfolding freeOf
 length-requires c κs =
     let b = c .before .before .before in
     let a = b .before .before .before in
     let t = a .args .t in
-    piece-fits (blockSize * greatestDisk) (t .free .items) (t .free .count) (b .loop .j)
-    (omega (arith, b .loop .inv))
-    (c .before .before .loop-test .taken) (free-pieces t (a .pre)) .height
+    each-taken {P = Low} (t .free .items) (t .free .count) (b .loop .j) (section 0 0) (omega (arith, b .loop .inv))
+    (free-low t (a .pre .sized) (a .pre .rules)) (c .before .before .loop-test .taken)
 
 add-sum : tie.Need-add-sum Inv-loop μ-loop
 add-sum c =

@@ -4,7 +4,7 @@ use native.Mathlib.Omega.{arith}
 use borrow.Author.Needs.{needs}
 use Rattle.table.specs.Files.{entryAt}
 use Rattle.table.specs.Tables.{fileOf}
-use Rattle.looking.proofs.LookedUp.{looked-fits, looked-found, looked-greatest, looked-missing}
+use Rattle.looking.proofs.LookedUp.{looked-fits, looked-found, looked-low, looked-missing}
 use Rattle.looking.proofs.ReadJudged.{read-answered, read-broken, read-empty, read-missing, read-past}
 use Rattle.looking.proofs.ReadJudged.{read-whole, read-wrong, read-zero}
 use Rattle.looking.proofs.read.read_in.Statement.{statement}
@@ -66,13 +66,13 @@ mul-e c = search needs
 array-copy-out-e : tie.Need-array-copy-out-e
 array-copy-out-e c = search needs
 
-sum-of-lengths-requires : tie.Need-sum-of-lengths-requires
-sum-of-lengths-requires c κs =
+blocks-of-requires : tie.Need-blocks-of-requires
+blocks-of-requires c κs =
     let k = c .before .before .before .before .before .before in
     let f = k .find in
     let s = k .before .before .before .before .before .before in
     let a = s .args in
-    looked-greatest (a .t) (s .pre) (a .id) (f .result) (f .ensures) (c .before .before .before .before .if3 .left)
+    looked-low (a .t) (s .pre) (a .id) (f .result) (f .ensures) (c .before .before .before .before .if3 .left)
 
 cast-n : tie.Need-cast-n
 cast-n c = search needs
@@ -88,7 +88,7 @@ returns-6 c =
     (k .before .if2 .left) (fileOf (entryAt (a .t) (f .result)))
     (looked-found (a .t) (s .pre) (a .id) (f .result) (f .ensures) (b .before .before .if3 .left))
     (b .before .if4 .left) (b .if5 .left)
-    (omega (arith, c .before .sum-of-lengths .ensures .equal, c .if6 .taken))
+    (omega (arith, c .before .blocks-of .ensures .equal, c .if6 .taken))
 
 returns-7 : tie.Need-returns-7
 returns-7 c =
@@ -101,7 +101,7 @@ returns-7 c =
     (k .before .if2 .left) (fileOf (entryAt (a .t) (f .result)))
     (looked-found (a .t) (s .pre) (a .id) (f .result) (f .ensures) (b .before .before .if3 .left))
     (b .before .if4 .left) (b .if5 .left)
-    (omega (arith, c .before .before .sum-of-lengths .ensures .equal, c .before .if6 .left, c .if7 .taken))
+    (omega (arith, c .before .before .blocks-of .ensures .equal, c .before .if6 .left, c .if7 .taken))
 
 read-pages-requires : tie.Need-read-pages-requires
 read-pages-requires c κs =
@@ -110,7 +110,7 @@ read-pages-requires c κs =
     let f = k .find in
     let s = k .before .before .before .before .before .before in
     let a = s .args in
-    let n = c .before .before .before .sum-of-lengths .ensures .equal in
+    let n = c .before .before .before .blocks-of .ensures .equal in
     record {
       entry =
           rw (k .before .before .if1 .left)
@@ -141,7 +141,7 @@ returns-8 c =
     (k .before .if2 .left) (fileOf (entryAt (a .t) (f .result)))
     (looked-found (a .t) (s .pre) (a .id) (f .result) (f .ensures) (b .before .before .if3 .left))
     (b .before .if4 .left) (b .if5 .left)
-    (omega (arith, p .before .before .sum-of-lengths .ensures .equal, p .before .if6 .left, p .if7 .left)) in
+    (omega (arith, p .before .before .blocks-of .ensures .equal, p .before .if6 .left, p .if7 .left)) in
     (r .0, λ cat. c .before .before .read-pages .ensures ∙ r .1 cat)
 
 pub read-in-spec : {M : Type 1} → statement M
@@ -158,7 +158,7 @@ read-in-spec =
     returns-5
     mul-e
     array-copy-out-e
-    sum-of-lengths-requires
+    blocks-of-requires
     cast-n
     returns-6
     returns-7

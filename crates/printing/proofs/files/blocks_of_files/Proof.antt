@@ -8,9 +8,11 @@ use borrow.Author.Needs.{needs}
 use lib.ListN.{drop, length, take}
 use Rattle.layout.specs.Layout.{fileBlocks}
 use Rattle.layout.specs.Lists.{sumOf}
+use Rattle.table.proofs.Arrays.{ahead, behind, length-of-mapped}
+use Rattle.table.proofs.EachItem.{each-taken}
+use Rattle.table.specs.Files.{noEntry}
 use Rattle.table.specs.Tables.{fileOf, filesOf}
-use Rattle.printing.proofs.Arrays.{ahead, behind, length-of-mapped}
-use Rattle.printing.proofs.Rows.{noEntry, entry-low}
+use Rattle.pieces.specs.Pieces.{LowEntry}
 use Rattle.printing.proofs.files.blocks_of_files.Statement.{statement}
 use Rattle.printing.proofs.files.blocks_of_files.Tie as tie
 
@@ -37,8 +39,8 @@ blocks-of-requires : tie.Need-blocks-of-requires Inv-loop μ-loop
 blocks-of-requires c κs =
     let t = c .before .before .before .before .args .t in
     let b = c .before .before .loop in
-    entry-low t (b .i) (b .inv .0) (b .inv .1) (c .before .loop-test .taken)
-    (c .before .before .before .before .pre .0) (c .before .before .before .before .pre .1)
+    each-taken {P = LowEntry} (t .files) (t .count) (b .i) noEntry (omega (arith, b .inv))
+    (c .before .before .before .before .pre .each) (c .before .loop-test .taken)
 
 add-sum : tie.Need-add-sum Inv-loop μ-loop
 add-sum c = search needs

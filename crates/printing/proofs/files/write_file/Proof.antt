@@ -26,7 +26,7 @@ write-line-requires c κs =
     let s = c .before .before .before .sorted in
     let n = c .before .before .before .before .blocks-of in
     file-room (fileOf e) (n .result) (freeOf (s .result)) (n .ensures .equal) (s .ensures .list)
-    (c .before .before .before .before .before .before .pre .1 .1)
+    (c .before .before .before .before .before .before .pre .1)
 
 write-pairs-requires : tie.Need-write-pairs-requires
 write-pairs-requires c κs =
@@ -37,9 +37,9 @@ write-pairs-requires c κs =
       (
         rw (s .ensures .list)
             (each-sort byFirst
-            (c .before .before .before .before .before .before .before .before .before .before .pre .1 .0)),
+            (c .before .before .before .before .before .before .before .before .before .before .pre .0 .low)),
         file-pairs-room (fileOf e) (n .result) (freeOf (s .result)) (n .ensures .equal) (s .ensures .list)
-            (c .before .before .before .before .before .before .before .before .before .before .pre .1 .1)
+            (c .before .before .before .before .before .before .before .before .before .before .pre .1)
             (c .before .before .before .write-line .ensures),
       ),
     )

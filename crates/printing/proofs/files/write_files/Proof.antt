@@ -7,9 +7,12 @@ use native.Mathlib.Omega.{arith}
 use borrow.Author.Needs.{needs}
 use lib.ListN.{drop, getD, length, take}
 use Rattle.manager.specs.Printing.{allFileLines, fileLines}
+use Rattle.table.proofs.Arrays.{length-of-mapped}
+use Rattle.table.proofs.EachItem.{each-taken}
+use Rattle.table.specs.Files.{noEntry}
 use Rattle.table.specs.Tables.{fileOf, filesOf}
-use Rattle.printing.proofs.Arrays.{length-of-mapped}
-use Rattle.printing.proofs.Rows.{entry-low, files-ahead, files-behind, noEntry}
+use Rattle.pieces.specs.Pieces.{LowEntry}
+use Rattle.printing.proofs.Rows.{files-ahead, files-behind}
 use Rattle.printing.proofs.Writing.{Left, left-end, left-room, left-start, left-step}
 use Rattle.printing.proofs.files.write_files.Statement.{statement}
 use Rattle.printing.proofs.files.write_files.Tie as tie
@@ -44,18 +47,13 @@ unfolding filesOf
 write-file-requires c κs =
     let t = c .before .before .before .before .before .before .args .t in
     let b = c .before .before .before .loop in
-    let lt = c .before .before .loop-test .taken in
-    let p =
-    entry-low t (b .i) (b .inv .0) (b .inv .1) lt (c .before .before .before .before .before .before .pre .0)
-    (c .before .before .before .before .before .before .pre .1 .0) in (
-      p .0,
-      (
-        p .1,
-        left-room (fileLines (fileOf (getD (t .files) (b .i) noEntry)))
-            (allFileLines (map fileOf (drop (b .i + 1) (take (t .count) (t .files)))))
-            (files-ahead (t .files) (t .count) (b .i) (omega arith) lt) (b .inv .3)
-            (c .before .before .before .before .before .before .pre .1 .1),
-      ),
+    let lt = c .before .before .loop-test .taken in (
+      each-taken {P = LowEntry} (t .files) (t .count) (b .i) noEntry (omega (arith, b .inv))
+          (c .before .before .before .before .before .before .pre .0 .each) lt,
+      left-room (fileLines (fileOf (getD (t .files) (b .i) noEntry)))
+          (allFileLines (map fileOf (drop (b .i + 1) (take (t .count) (t .files)))))
+          (files-ahead (t .files) (t .count) (b .i) (omega arith) lt) (b .inv .3)
+          (c .before .before .before .before .before .before .pre .1),
     )
 
 add-i : tie.Need-add-i Inv-loop μ-loop

@@ -27,7 +27,7 @@ write-line-requires c κs =
     let t = c .before .before .before .before .before .before .args .t in
     let r = c .before .before .before .before .blocks-of-files in
     let l = first-line (layoutOf t) (t .blocks - r .result) (ap (λ k. t .blocks - k) (r .ensures .equal)) in
-    room-same l (c .before .before .before .before .before .before .pre .1 .1 .1)
+    room-same l (c .before .before .before .before .before .before .pre .1 .1)
 
 same-length : tie.Need-same-length
 same-length c = search needs

@@ -1,0 +1,4 @@
+-- The laws of a file's pieces, by subject, and the proofs of the functions.
+pub mod PieceOrder
+pub mod PieceCounts
+pub mod SoundPieces

@@ -1,0 +1,41 @@
+-- The pieces of a sound table: every height has a length. Assumes nothing.
+use mathlib.Core.List.{List, [], _++_, _∷_}
+use Prim.Native.Nat.{_<_}
+use native.Mathlib.Omega.{arith}
+use lib.ListN.{take}
+use Rattle.section.specs.declared.Section.{Section}
+use Rattle.layout.proofs.Lists.{each-and, each-imp, each-left, each-right, each-unmap}
+use Rattle.layout.specs.Layout.{File, filePieces}
+use Rattle.layout.specs.Lists.{Each, done, more}
+use Rattle.layout.specs.Sound.{Sound}
+use Rattle.table.proofs.EachItem.{each-take}
+use Rattle.table.specs.Tables.{Sized, fileOf, filesOf, freeOf, layoutOf}
+use Rattle.table.specs.declared.Entry.{Entry}
+use Rattle.table.specs.declared.Table.{Table}
+use Rattle.pieces.specs.Pieces.{Low, LowFiles}
+
+each-file : {P : Section → Type 0} (fs : List File) → Each P (filePieces fs)
+    → Each (λ (f : File). Each P (f .pieces)) fs
+unfolding filePieces
+each-file [] e = done
+each-file (f ∷ fs) e =
+    more {a = f} (each-left (f .pieces) (filePieces fs) e) (each-file fs (each-right (f .pieces) (filePieces fs) e))
+
+module _ (t : Table) (sized : Sized t) (sound : Sound 13 (layoutOf t)) where
+  all-low : Each Low (filePieces (filesOf t) ++ freeOf (t .free))
+  unfolding layoutOf
+  all-low = each-imp (λ (s : Section) (h : s .height .value < 13). omega arith) (sound .heights)
+
+  pub free-low : Each Low (freeOf (t .free))
+  free-low = each-right (filePieces (filesOf t)) (freeOf (t .free)) all-low
+
+  pub files-low : LowFiles t
+  unfolding filesOf
+  files-low = record {
+    most = sized .files;
+    each =
+        each-imp (λ (e : Entry) p. record { places = p .0; low = p .1 })
+        (each-and (each-take (t .count) (sized .each))
+        (each-unmap fileOf (take (t .count) (t .files))
+        (each-file (filesOf t) (each-left (filePieces (filesOf t)) (freeOf (t .free)) all-low))));
+  }

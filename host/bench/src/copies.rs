@@ -1,0 +1,100 @@
+//! Block copies: a removal that copies as many blocks as it may, beside copies of the same blocks and nothing else.
+
+use crate::sides::{make, Call, Lent, Side};
+use crate::timing::{interleaved, Spread};
+use std::hint::black_box;
+use std::time::Instant;
+use twin::{BLOCK, CATALOGUE};
+
+/// A disk of 2^(top + 2) blocks with the files 1 of one block, 2 of 2^(top + 1) - 1 and 3 of one. Removing file 1
+/// merges at every height from 0 to top, and copies either at every merge or at none.
+struct Chain {
+    cat: Vec<u8>,
+    disk: Vec<u8>,
+    copies: Vec<(usize, usize)>,
+}
+
+/// The pairs of a length for each height from 0 to top: in the lower half from block 1 up, each after the one before,
+/// and in the upper half from its end down.
+fn lower_pairs(top: u32) -> Vec<[u16; 2]> {
+    (0..=top).map(|height| [1 << height, 1 << height]).collect()
+}
+
+fn upper_pairs(top: u32) -> Vec<[u16; 2]> {
+    let end = 1u32 << (top + 2);
+    (0..=top).rev().map(|height| [(end - (2 << height)) as u16, 1 << height]).collect()
+}
+
+impl Chain {
+    fn new(top: u32, copying: bool) -> Chain {
+        let blocks = 1u16 << (top + 2);
+        let (held, free) =
+            if copying { (lower_pairs(top), upper_pairs(top)) } else { (upper_pairs(top), lower_pairs(top)) };
+        let mut fields = vec![1, blocks, 3, 1, 1, 0, 1, 2, blocks / 2 - 1];
+        fields.extend(held.as_flattened());
+        fields.extend([3, 1, blocks - 1, 1]);
+        fields.extend(free.as_flattened());
+        let mut cat: Vec<u8> = fields.iter().flat_map(|field| field.to_be_bytes()).collect();
+        cat.resize(CATALOGUE, 0);
+        let disk: Vec<u8> = (0..usize::from(blocks) * BLOCK).map(|i| (i / BLOCK) as u8).collect();
+        let copies = model::removal_copies(&cat, &disk, 1).expect("the catalogue is sound");
+        assert_eq!(copies.len(), if copying { usize::from(blocks) / 2 - 1 } else { 0 });
+        Chain { cat, disk, copies }
+    }
+
+    /// The nanoseconds of the removal.
+    fn time_removal(&mut self, side: Side) -> f64 {
+        let mut cat = self.cat.clone();
+        let mut lent = Lent { disk: &mut self.disk, content: &[], out: &mut [], id: 1 };
+        let clock = Instant::now();
+        let answer = black_box(make(side, Call::Remove, black_box(&mut cat), &mut lent));
+        let time = clock.elapsed().as_nanos() as f64;
+        assert_eq!(answer, Ok(self.copies.len() as u64));
+        time
+    }
+
+    /// The nanoseconds of the copies alone, block by block.
+    fn time_copies(&mut self) -> f64 {
+        let clock = Instant::now();
+        for &(from, to) in black_box(&self.copies) {
+            self.disk.copy_within(from * BLOCK..(from + 1) * BLOCK, to * BLOCK);
+        }
+        black_box(&mut self.disk);
+        clock.elapsed().as_nanos() as f64
+    }
+}
+
+/// Nanoseconds for each copied block.
+pub struct Copies {
+    pub blocks: usize,
+    pub copied: usize,
+    /// The removal that copies less the same one that does not: proved, twin, model.
+    pub removals: [Spread; 3],
+    /// `copy_within` for each block.
+    pub alone: Spread,
+    /// The proved removal's copies over the copies alone, and over the twin's.
+    pub to_alone: Spread,
+    pub to_twin: Spread,
+}
+
+/// Times the removals and the copies by turns, on a disk of 2^(top + 2) blocks.
+pub fn time_copies(top: u32, rounds: usize) -> Copies {
+    let (mut copying, mut none) = (Chain::new(top, true), Chain::new(top, false));
+    let sides = [Side::Proved, Side::Twin, Side::Model];
+    let copied = copying.copies.len();
+    let times = interleaved(4, rounds, |which| {
+        let time = match sides.get(which) {
+            Some(&side) => copying.time_removal(side) - none.time_removal(side),
+            None => copying.time_copies(),
+        };
+        time / copied as f64
+    });
+    Copies {
+        blocks: 1 << (top + 2),
+        copied,
+        removals: [0, 1, 2].map(|side| Spread::of(times[side].clone())),
+        alone: Spread::of(times[3].clone()),
+        to_alone: Spread::of_ratios(&times[0], &times[3]),
+        to_twin: Spread::of_ratios(&times[0], &times[1]),
+    }
+}

@@ -1,0 +1,80 @@
+//! Times the proved event disk manager beside a plain twin and beside the second implementation, as ratios.
+
+#![forbid(unsafe_code)]
+
+mod arguments;
+mod copies;
+mod numbers;
+mod plot;
+mod report;
+mod scene;
+mod sides;
+mod timing;
+
+use arguments::Task;
+use report::Measured;
+use scene::Scene;
+use sides::{Call, Side};
+use std::path::Path;
+use std::process::ExitCode;
+
+/// Times every call on every disk, and the block copies.
+fn measure(rounds: usize) -> Measured {
+    let scenes = Scene::all();
+    let mut rows = Vec::new();
+    for scene in 0..scenes.len() {
+        for call in Call::ALL {
+            eprintln!("timing {} on {} ..", call.name(), scenes[scene].name);
+            rows.push(timing::time_call(&scenes, scene, call, rounds));
+        }
+    }
+    let copies = [7, 10].map(|top| copies::time_copies(top, rounds)).into();
+    Measured { rounds, scenes, rows, copies }
+}
+
+/// Writes the tables and the plot to the documents. It is to be run where the folder `docs` is.
+fn write(measured: &Measured, tables: &str) -> Result<(), String> {
+    let (page, plot) = (Path::new("docs/BENCHMARK.md"), Path::new("docs/benchmark.svg"));
+    let wrong = |path: &Path, what: String| format!("{}: {what}", path.display());
+    let document = std::fs::read_to_string(page).map_err(|e| wrong(page, e.to_string()))?;
+    let changed = report::put_between_marks(&document, tables);
+    let changed = changed.ok_or_else(|| wrong(page, "it has no marks to write between".into()))?;
+    std::fs::write(page, changed).map_err(|e| wrong(page, e.to_string()))?;
+    std::fs::write(plot, plot::svg(measured)).map_err(|e| wrong(plot, e.to_string()))
+}
+
+/// Makes a call about `calls` times: whole batches.
+fn profile(side: Side, call: Call, disk: &str, calls: usize) -> Result<(), String> {
+    let scene = Scene::named(disk).ok_or(format!("'{disk}' is no disk"))?;
+    let mut batch = timing::Batch::new(&scene, call);
+    for _ in 0..calls.div_ceil(timing::BATCH) {
+        batch.time(side);
+    }
+    Ok(())
+}
+
+fn run() -> Result<(), String> {
+    match arguments::parse(std::env::args().skip(1))? {
+        Task::Help => print!("{}", arguments::HELP),
+        Task::Profile { side, call, disk, calls } => profile(side, call, &disk, calls)?,
+        Task::Measure { rounds, write: to_documents } => {
+            let measured = measure(rounds);
+            let tables = report::text(&measured);
+            print!("{tables}");
+            if to_documents {
+                write(&measured, &tables)?;
+            }
+        }
+    }
+    Ok(())
+}
+
+fn main() -> ExitCode {
+    match run() {
+        Ok(()) => ExitCode::SUCCESS,
+        Err(what) => {
+            eprintln!("bench: {what}");
+            ExitCode::from(2)
+        }
+    }
+}

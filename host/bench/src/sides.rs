@@ -1,0 +1,109 @@
+//! What is timed: one call with its buffers, on one of the implementations.
+
+use event_disk::Refusal;
+
+/// An implementation. The proved one stands twice, so that the ratio of its two series shows the noise of the run.
+#[derive(Clone, Copy, Debug, PartialEq, Eq)]
+pub enum Side {
+    Proved,
+    Twin,
+    Model,
+    ProvedAgain,
+}
+
+impl Side {
+    pub const ALL: [Side; 4] = [Side::Proved, Side::Twin, Side::Model, Side::ProvedAgain];
+
+    pub fn name(self) -> &'static str {
+        match self {
+            Side::Proved => "proved",
+            Side::Twin => "twin",
+            Side::Model => "model",
+            Side::ProvedAgain => "proved-again",
+        }
+    }
+}
+
+/// A call of the manager. Reads are of one page and of a whole file.
+#[derive(Clone, Copy, Debug, PartialEq, Eq)]
+pub enum Call {
+    Format,
+    Add,
+    Remove,
+    ReadPage,
+    ReadFile,
+    Breaks,
+    Free,
+    Check,
+}
+
+impl Call {
+    pub const ALL: [Call; 8] =
+        [Call::Format, Call::Add, Call::Remove, Call::ReadPage, Call::ReadFile, Call::Breaks, Call::Free, Call::Check];
+
+    pub fn name(self) -> &'static str {
+        match self {
+            Call::Format => "format",
+            Call::Add => "add",
+            Call::Remove => "remove",
+            Call::ReadPage => "read-page",
+            Call::ReadFile => "read-file",
+            Call::Breaks => "breaks",
+            Call::Free => "free",
+            Call::Check => "check",
+        }
+    }
+}
+
+/// The buffers and numbers of one call, but for its catalogue.
+pub struct Lent<'a> {
+    pub disk: &'a mut [u8],
+    pub content: &'a [u8],
+    pub out: &'a mut [u8],
+    pub id: u16,
+}
+
+/// Makes one call.
+pub fn make(side: Side, call: Call, cat: &mut [u8], lent: &mut Lent) -> Result<u64, u8> {
+    match side {
+        Side::Proved | Side::ProvedAgain => on_proved(call, cat, lent).map_err(Refusal::number),
+        Side::Twin => on_twin(call, cat, lent),
+        Side::Model => on_model(call, cat, lent),
+    }
+}
+
+fn on_proved(call: Call, cat: &mut [u8], lent: &mut Lent) -> Result<u64, Refusal> {
+    match call {
+        Call::Format => event_disk::format(cat, lent.disk),
+        Call::Add => event_disk::add(cat, lent.disk, lent.id, lent.content),
+        Call::Remove => event_disk::remove(cat, lent.disk, lent.id),
+        Call::ReadPage | Call::ReadFile => event_disk::read(cat, lent.disk, lent.id, 0, lent.out),
+        Call::Breaks => event_disk::breaks(cat, lent.id),
+        Call::Free => event_disk::free(cat),
+        Call::Check => event_disk::check(cat, lent.disk),
+    }
+}
+
+fn on_twin(call: Call, cat: &mut [u8], lent: &mut Lent) -> Result<u64, u8> {
+    match call {
+        Call::Format => twin::format(cat, lent.disk),
+        Call::Add => twin::add(cat, lent.disk, lent.id, lent.content),
+        Call::Remove => twin::remove(cat, lent.disk, lent.id),
+        Call::ReadPage | Call::ReadFile => twin::read(cat, lent.disk, lent.id, 0, lent.out),
+        Call::Breaks => twin::breaks(cat, lent.id),
+        Call::Free => twin::free(cat),
+        Call::Check => twin::check(cat, lent.disk),
+    }
+}
+
+fn on_model(call: Call, cat: &mut [u8], lent: &mut Lent) -> Result<u64, u8> {
+    match call {
+        Call::Format => model::format(cat, lent.disk),
+        Call::Add => model::add(cat, lent.disk, lent.id, lent.content),
+        Call::Remove => model::remove(cat, lent.disk, lent.id),
+        Call::ReadPage | Call::ReadFile => model::read(cat, lent.disk, lent.id, 0, lent.out),
+        Call::Breaks => model::breaks(cat, lent.id),
+        Call::Free => model::free(cat),
+        Call::Check => model::check(cat, lent.disk),
+    }
+}

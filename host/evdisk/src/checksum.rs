@@ -1,0 +1,18 @@
+//! A checksum, to tell a file that was written whole from one that was not.
+
+/// The 64-bit FNV-1a sum of the bytes. A change of any one byte changes it.
+pub fn checksum(bytes: &[u8]) -> u64 {
+    bytes.iter().fold(0xCBF2_9CE4_8422_2325, |sum, byte| (sum ^ u64::from(*byte)).wrapping_mul(0x0000_0100_0000_01B3))
+}
+
+#[cfg(test)]
+mod tests {
+    use super::*;
+
+    #[test]
+    fn it_is_fnv_1a() {
+        assert_eq!(checksum(b""), 0xCBF2_9CE4_8422_2325);
+        assert_eq!(checksum(b"a"), 0xAF63_DC4C_8601_EC8C);
+        assert_eq!(checksum(b"foobar"), 0x8594_4171_F739_67E8);
+    }
+}

@@ -1,0 +1,127 @@
+//! How a command's writes follow each other, so that it is done whole or not at all whenever it is cut off.
+//!
+//! An add writes only to blocks that are free in the catalogue before, so its pages go to the image first and the
+//! catalogue is replaced last, by a rename: that is the step that decides.
+//!
+//! A removal copies onto blocks that files hold in the catalogue before. So it is written down first as a redo file
+//! beside the image; the rename that gives that file its name is the step that decides. Then the blocks, the catalogue
+//! and the shift log are written and the redo file is removed. If it is found at the start of a command, all that is
+//! done again, which gives the same bytes however far it had come.
+//!
+//! After each lasting write a watcher is asked whether to go on. The tool's always agrees; a test's stops there, as the
+//! supply may fail there.
+
+use crate::checksum::checksum;
+use crate::paths::Paths;
+use crate::redo::{self, Redo};
+use crate::store::Disk;
+use crate::{files, shift_log, Failure};
+use event_disk::BLOCK;
+use std::fs::{self, File};
+
+/// Who is asked after each lasting write, with its name, whether to go on.
+pub type Watch<'a> = &'a mut dyn FnMut(&str) -> Result<(), Failure>;
+
+/// The watcher that always goes on.
+pub fn go_on(_: &str) -> Result<(), Failure> {
+    Ok(())
+}
+
+/// The blocks that differ between two disks of the same length, with their bytes in the second.
+pub fn changed(before: &[u8], after: &[u8]) -> Vec<(u64, Vec<u8>)> {
+    let pairs = before.chunks(BLOCK).zip(after.chunks(BLOCK));
+    (0..).zip(pairs).filter(|(_, (old, new))| old != new).map(|(i, (_, new))| (i, new.to_vec())).collect()
+}
+
+/// Makes an add last: the pages into free blocks, then the catalogue.
+pub fn add(paths: &Paths, image: &File, before: &Disk, after: &Disk, watch: Watch) -> Result<(), Failure> {
+    write_blocks(paths, image, &changed(&before.blocks, &after.blocks), watch)?;
+    replace_catalogue(paths, &after.catalogue, watch)
+}
+
+/// The removal that leads from one disk to another, with its line of the shift log.
+pub fn written_down(paths: &Paths, before: &Disk, after: &Disk, line: &str) -> Result<Redo, Failure> {
+    Ok(Redo {
+        blocks: (before.blocks.len() / BLOCK) as u64,
+        before: checksum(&before.catalogue),
+        catalogue: after.catalogue.clone(),
+        log_length: shift_log::length(&paths.log)?,
+        log_line: line.as_bytes().to_vec(),
+        changed: changed(&before.blocks, &after.blocks),
+    })
+}
+
+/// Makes a removal last: decides it, and then does it.
+pub fn remove(paths: &Paths, image: &File, redo: &Redo, watch: Watch) -> Result<(), Failure> {
+    let done = decide(paths, redo, watch).and_then(|()| carry_out(paths, image, redo, watch));
+    done.map_err(|failure| match files::is_there(&paths.redo) {
+        Ok(true) => failure.and("the removal is decided, and the next command completes it"),
+        _ => failure,
+    })
+}
+
+/// Writes the redo file and gives it its name, which decides the removal.
+fn decide(paths: &Paths, redo: &Redo, watch: Watch) -> Result<(), Failure> {
+    files::write(&paths.redo_new, &redo.bytes())?;
+    watch("redo file written")?;
+    files::rename(paths, &paths.redo_new, &paths.redo)?;
+    watch("redo file named")
+}
+
+/// Does a removal that is decided, or does it again.
+fn carry_out(paths: &Paths, image: &File, redo: &Redo, watch: Watch) -> Result<(), Failure> {
+    write_blocks(paths, image, &redo.changed, watch)?;
+    replace_catalogue(paths, &redo.catalogue, watch)?;
+    shift_log::put(&paths.log, redo.log_length, &redo.log_line)?;
+    files::sync_folder(paths)?;
+    watch("log line written")?;
+    files::remove(paths, &paths.redo)?;
+    watch("redo file removed")
+}
+
+/// Writes blocks to the image and has them last.
+fn write_blocks(paths: &Paths, image: &File, blocks: &[(u64, Vec<u8>)], watch: Watch) -> Result<(), Failure> {
+    for (number, bytes) in blocks {
+        files::write_at(image, &paths.image, number * BLOCK as u64, bytes)?;
+        watch("block written")?;
+    }
+    files::sync(image, &paths.image)
+}
+
+/// Puts a catalogue in the place of the old one, if there is one, in one step.
+pub fn replace_catalogue(paths: &Paths, catalogue: &[u8], watch: Watch) -> Result<(), Failure> {
+    files::write(&paths.catalogue_new, catalogue)?;
+    if let Ok(about) = fs::metadata(&paths.catalogue) {
+        let kept = fs::set_permissions(&paths.catalogue_new, about.permissions());
+        kept.map_err(|why| Failure::file(&paths.catalogue_new, why))?;
+    }
+    watch("catalogue written")?;
+    files::rename(paths, &paths.catalogue_new, &paths.catalogue)?;
+    watch("catalogue named")
+}
+
+/// Completes a removal that was cut off after it was decided, if there is one, and clears away what was not decided.
+/// Says whether there was one.
+pub fn recover(paths: &Paths, image: &File, watch: Watch) -> Result<bool, Failure> {
+    let pending = files::is_there(&paths.redo)?;
+    if pending {
+        let redo = pending_removal(paths, image)?;
+        carry_out(paths, image, &redo, watch)?;
+    }
+    files::remove(paths, &paths.redo_new)?;
+    files::remove(paths, &paths.catalogue_new)?;
+    Ok(pending)
+}
+
+/// The removal in the redo file, if that is whole and about this disk.
+fn pending_removal(paths: &Paths, image: &File) -> Result<Redo, Failure> {
+    let bytes = files::read_at_most(&files::open(&paths.redo)?, &paths.redo, redo::MOST)?;
+    let wrong = |why: &str| Failure::file(&paths.redo, why).and("nothing was changed (see evdisk(1), RECOVERY)");
+    let redo = Redo::of_bytes(&bytes).ok_or_else(|| wrong("this redo file is damaged"))?;
+    let disk = Disk::of_files(paths, image)?;
+    let known = checksum(&disk.catalogue) == redo.before || disk.catalogue == redo.catalogue;
+    if !known || disk.blocks.len() as u64 != redo.blocks * BLOCK as u64 {
+        return Err(wrong("this redo file belongs to another disk"));
+    }
+    Ok(redo)
+}

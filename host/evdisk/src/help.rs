@@ -1,0 +1,72 @@
+//! The help of the tool and of each command.
+
+use crate::command::{Command, COMMANDS};
+
+/// What `evdisk --version` says.
+pub const VERSION: &str = concat!("evdisk ", env!("CARGO_PKG_VERSION"), "\n");
+
+pub const FORMAT: &str = "\
+A new image gets C blocks of 512 bytes, all zero; C is 1 to 4096. An image that is there is only formatted with
+--force: its blocks keep their bytes, --blocks may be left out, and all events on it are given up.";
+
+pub const ADD: &str = "\
+FILE is one or more records of 512 bytes. Says in which pieces the event lies, as (first block,length), in page order.";
+
+pub const REMOVE: &str = "\
+Says how many blocks were copied to join free space, and the contract's limit for this removal: the sum of the place
+values at which free blocks plus the event's blocks carry in binary. A line with both goes to the shift log.";
+
+pub const READ: &str = "\
+Reads N pages from page P on; pages count from 0. Without --first it starts at page 0, without --pages it goes on to
+the event's end. With --output the pages go to FILE, which must not be there yet.";
+
+pub const LIST: &str = "\
+Pieces are written as (first block,length); those of an event stand in page order, free ones by first block.";
+
+pub const BREAKS: &str = "Reads the catalogue only.";
+
+pub const FREE: &str = "Reads the catalogue only.";
+
+pub const CHECK: &str = "\
+Says the number of blocks if the catalogue is sound and the image as long as it says; is refused otherwise.";
+
+pub const MAP: &str = "\
+Draws a letter or digit for each block and a dot for a free one, W blocks to a row (64 if not given), and a legend. On a
+terminal the letters have colours, unless NO_COLOR is set. With --svg the drawing goes to FILE as SVG instead; FILE must
+not be there yet, or is - for standard output.";
+
+pub const LOG: &str = "\
+Shows for each removal its date, the event's id and blocks, the blocks that were copied and the contract's limit.";
+
+const REST: &str = "
+IMAGE holds the disk's blocks. Beside it stand IMAGE.cat, the catalogue; IMAGE.log, the shift log; and IMAGE.redo, only
+while a removal is under way. Keep them together. ID is a number from 1 to 65535.
+
+To a disk that is there each command is done whole or not at all, even if it is cut off: an add writes to free blocks
+and then replaces the catalogue in one step; a removal is first written down whole in IMAGE.redo, and a command that
+finds that file completes it. Not covered: a drive that says that bytes are written when they are not, and new files
+that a format, read or map was making. Two commands at once on one disk are kept apart by a lock.
+
+Status: 0 done; 1 refused, with 'refused' and the number; 2 wrong command line; 3 a file could not be read or written.
+--json: the answer as JSON. evdisk COMMAND --help tells more about a command, and so does the manual page evdisk(1).
+";
+
+/// The help of the tool.
+pub fn general() -> String {
+    let mut text = String::from("evdisk: event disks of volcano stations, kept in files\n\n");
+    for command in &COMMANDS {
+        text += &format!("  {}\n      {}\n", command.usage(), command.short);
+    }
+    text + REST
+}
+
+/// The help of a command.
+pub fn of(command: &Command) -> String {
+    format!("{}\n\n{}.\n{}\n", command.usage(), capital(command.short), command.long)
+}
+
+/// The text with a capital at its start.
+fn capital(text: &str) -> String {
+    let (first, rest) = text.split_at(1);
+    first.to_uppercase() + rest
+}

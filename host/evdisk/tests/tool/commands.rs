@@ -1,0 +1,119 @@
+//! What the commands do and say when all is well.
+
+use crate::scratch::Scratch;
+
+#[test]
+fn the_commands_say_what_they_did() {
+    let scratch = Scratch::new();
+    scratch.write("e", &miniseed::event(5, 3));
+    scratch.write("one", &miniseed::event(9, 1));
+    assert_eq!(scratch.does("format d --blocks 16"), "formatted: 16 blocks\n");
+    assert_eq!(scratch.does("add d 5 e"), "added 5: 3 blocks in 2 pieces: (0,2) (2,1)\n");
+    assert_eq!(scratch.does("add d 9 one"), "added 9: 1 block in 1 piece: (3,1)\n");
+    assert_eq!(scratch.does("breaks d 5"), "5: 1 break\n");
+    assert_eq!(scratch.does("free d"), "12 blocks free\n");
+    assert_eq!(scratch.does("check d"), "sound: 16 blocks\n");
+    assert_eq!(scratch.does("remove d 9"), "removed 9: 0 blocks copied (contract limit 0)\n");
+}
+
+#[test]
+fn case_7_is_listed_and_drawn() {
+    let scratch = Scratch::case_6();
+    assert_eq!(scratch.does("remove d 5"), "removed 5: 2 blocks copied (contract limit 2)\n");
+    let list = "   id  blocks  pieces  breaks  places (first block,length)
+    2       2       1       0  (4,2)
+    9       1       1       0  (7,1)
+ free      13       3          (0,4) (6,1) (8,8)
+16 blocks, 2 files
+";
+    assert_eq!(scratch.does("list d"), list);
+    let map = scratch.does("map d --width 8");
+    assert!(map.starts_with("    0  ....22.9\n    8  ........\n\n    2  id 2 "), "{map}");
+    assert!(!map.contains('\u{1b}'), "no colours where there is no terminal");
+}
+
+#[test]
+fn shifted_events_are_read_back_equal() {
+    let events: Vec<(u16, usize)> = (1..=40).map(|id| (id, 1 + usize::from(id) * 7 % 23)).collect();
+    let scratch = Scratch::disk(500, &events);
+    let place = |id: u16| {
+        scratch.does("list d").lines().find(|line| line.starts_with(&format!("{id:>5} "))).map(str::to_string)
+    };
+    let mut shifted = 0;
+    for removed in (1..=40).step_by(2) {
+        let before: Vec<_> = (2..=40).step_by(2).map(place).collect();
+        scratch.does(&format!("remove d {removed}"));
+        let after: Vec<_> = (2..=40).step_by(2).map(place).collect();
+        shifted += before.iter().zip(&after).filter(|(before, after)| before != after).count();
+        for id in (2..=40).step_by(2).chain(removed + 2..=40) {
+            assert!(
+                scratch.event(id) == scratch.read(&format!("event-{id}")),
+                "event {id} after {removed} was removed"
+            );
+        }
+    }
+    assert!(shifted > 20, "only {shifted} events were shifted");
+    let all: Vec<u8> = (2..=40).step_by(2).flat_map(|id| scratch.event(id)).collect();
+    assert_eq!(miniseed::samples(&all).expect("real records").len(), all.len() / 512 * 112);
+}
+
+#[test]
+fn pages_are_read_from_the_first_asked_on() {
+    let scratch = Scratch::disk(16, &[(7, 5)]);
+    let event = scratch.read("event-7");
+    let pages = |words: &[&str]| scratch.output(&[&["read", "d", "7"], words].concat()).stdout;
+    assert_eq!(pages(&["--first", "3"]), event[3 * 512..]);
+    assert_eq!(pages(&["--first=1", "--pages=2"]), event[512..3 * 512]);
+    assert_eq!(pages(&["--pages", "1"]), event[..512]);
+    assert_eq!(scratch.does("read d 7 --first 4 --output page"), "");
+    assert_eq!(scratch.read("page"), event[4 * 512..]);
+}
+
+#[test]
+fn the_log_has_a_line_for_each_removal() {
+    let scratch = Scratch::case_6();
+    assert_eq!(scratch.does("log d"), "date                     id  blocks  copied   limit\n");
+    scratch.does("remove d 5");
+    scratch.does("remove d 9");
+    let log = scratch.does("log d");
+    let lines: Vec<&str> = log.lines().collect();
+    assert_eq!(lines.len(), 3);
+    assert!(lines[1].ends_with("Z      5       3       2       2"), "{log}");
+    assert!(lines[2].ends_with("Z      9       1       0       1"), "{log}");
+}
+
+#[test]
+fn an_image_keeps_its_bytes_when_it_is_formatted_again() {
+    let scratch = Scratch::case_6();
+    let image = scratch.read("d");
+    assert_eq!(scratch.does("format d --force"), "formatted: 16 blocks\n");
+    assert_eq!(scratch.does("free d"), "16 blocks free\n");
+    assert_eq!(scratch.does("format d --blocks 16 --force"), "formatted: 16 blocks\n");
+    assert!(scratch.read("d") == image);
+}
+
+#[test]
+fn a_drawing_is_written_to_a_file_or_to_standard_output() {
+    let scratch = Scratch::case_6();
+    assert_eq!(scratch.does("map d --svg map.svg"), "");
+    let svg = String::from_utf8(scratch.read("map.svg")).expect("text");
+    assert_eq!(svg, scratch.does("map d --svg -"));
+    for title in ["id 2: blocks 4 to 5", "id 5: blocks 0 to 1", "id 5: blocks 2 to 2", "free: blocks 8 to 15"] {
+        assert!(svg.contains(&format!("<title>{title}</title></rect>")), "{title}");
+    }
+}
+
+#[test]
+fn names_that_look_like_options_stand_after_two_dashes() {
+    let scratch = Scratch::new();
+    assert_eq!(scratch.does("format --blocks=1 -- --disk"), "formatted: 1 block\n");
+    assert_eq!(scratch.does("check -- --disk"), "sound: 1 block\n");
+    assert_eq!(scratch.read("--disk"), [0; 512]);
+}
+
+#[test]
+fn the_greatest_disk_takes_an_event_that_fills_it() {
+    let scratch = Scratch::disk(4096, &[(65535, 4096)]);
+    assert!(scratch.event(65535) == scratch.read("event-65535"));
+    assert_eq!(scratch.does("free d"), "0 blocks free\n");
+}

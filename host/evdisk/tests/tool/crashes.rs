@@ -1,0 +1,157 @@
+//! A command that is cut off after any of its writes: the next command finds the old state or the new one, whole.
+
+use crate::cut::{complete, opened, remove, Cut, LINE};
+use crate::scratch::Scratch;
+use evdisk_tool::commit;
+use evdisk_tool::redo::Redo;
+use std::collections::BTreeMap;
+
+/// Disks and a removal on each that copies blocks: the number of blocks, the events in the order of adding, and the id.
+fn removals() -> Vec<(Scratch, u16)> {
+    let many: Vec<(u16, usize)> = (1..=12).map(|id| (id, [1, 3, 2, 7, 5, 1][usize::from(id) % 6])).collect();
+    vec![(Scratch::case_6(), 5), (Scratch::disk(45, &many), 2), (Scratch::disk(64, &many), 1)]
+}
+
+/// The events that the tool reads, with their pages.
+fn events(scratch: &Scratch) -> BTreeMap<u16, Vec<u8>> {
+    let listing = event_disk::list(&scratch.read("d.cat")).expect("a sound catalogue");
+    listing.files.iter().map(|file| (file.id, scratch.event(file.id))).collect()
+}
+
+/// The state is the one before the removal: catalogue, events and log.
+fn is_old(scratch: &Scratch, old: &Scratch, when: &str) {
+    assert_eq!(scratch.says("check d").err, "", "{when}");
+    assert!(scratch.read("d.cat") == old.read("d.cat"), "{when}: another catalogue");
+    assert!(events(scratch) == events(old), "{when}: other pages");
+    assert_eq!(scratch.does("log d --json"), "[]\n", "{when}");
+}
+
+/// The state is the one after the removal, in each byte of image and catalogue, and the log has its line once.
+fn is_new(scratch: &Scratch, new: &Scratch, when: &str) {
+    assert_eq!(scratch.says("check d").status, 0, "{when}");
+    assert!(scratch.read("d.cat") == new.read("d.cat"), "{when}: another catalogue");
+    assert!(scratch.read("d") == new.read("d"), "{when}: another image");
+    assert!(events(scratch) == events(new), "{when}: other pages");
+    assert_eq!(String::from_utf8(scratch.read("d.log")).as_deref(), Ok(LINE), "{when}");
+    for left in ["d.redo", "d.redo.new", "d.cat.new"] {
+        assert!(!scratch.path(left).exists(), "{when}: {left} is left");
+    }
+}
+
+/// The disk after a removal that nothing cuts off.
+fn uncut(old: &Scratch, id: u16) -> Scratch {
+    let new = old.copy();
+    new.does(&format!("remove d {id}"));
+    new
+}
+
+#[test]
+fn a_removal_cut_off_after_any_write_is_found_undone_or_done() {
+    for (old, id) in removals() {
+        let new = uncut(&old, id);
+        let writes = remove(&old.copy(), id, usize::MAX).made.len();
+        assert!(writes > 6, "only {writes} writes");
+        for after in 1..=writes {
+            let scratch = old.copy();
+            let cut = remove(&scratch, id, after);
+            let when = format!("after {after} writes of {writes}");
+            match cut.made("redo file named") {
+                false => is_old(&scratch, &old, &when),
+                true => is_new(&scratch, &new, &when),
+            }
+        }
+    }
+}
+
+#[test]
+fn a_removal_cut_off_again_while_it_is_completed_is_done() {
+    let (old, id) = removals().swap_remove(1);
+    let new = uncut(&old, id);
+    let cut_off = |after| {
+        let scratch = old.copy();
+        remove(&scratch, id, after);
+        scratch
+    };
+    for first in [2, 4, remove(&old.copy(), id, usize::MAX).made.len() - 2] {
+        let writes = complete(&cut_off(first), usize::MAX).made.len();
+        for second in 1..=writes {
+            let scratch = cut_off(first);
+            complete(&scratch, second);
+            complete(&scratch, second / 2 + 1);
+            is_new(&scratch, &new, &format!("after {first} and then {second} writes"));
+        }
+    }
+}
+
+#[test]
+fn blocks_a_catalogue_and_a_log_line_half_written_are_written_again() {
+    for (old, id) in removals() {
+        let new = uncut(&old, id);
+        let scratch = old.copy();
+        remove(&scratch, id, 2);
+        let redo = Redo::of_bytes(&scratch.read("d.redo")).expect("a whole redo file");
+        let mut image = scratch.read("d");
+        for (block, _) in &redo.changed {
+            let at = *block as usize * 512;
+            image[at..at + 200].fill(0xEE);
+        }
+        scratch.write("d", &image);
+        scratch.write("d.cat.new", &redo.catalogue[..100]);
+        scratch.write("d.log", &LINE.as_bytes()[..20]);
+        is_new(&scratch, &new, "half written");
+    }
+}
+
+#[test]
+fn a_redo_file_half_written_is_cleared_away() {
+    let (old, id) = removals().swap_remove(0);
+    let scratch = old.copy();
+    remove(&scratch, id, 1);
+    let redo = scratch.read("d.redo.new");
+    for length in [0, 1, 100, redo.len() - 1, redo.len()] {
+        scratch.write("d.redo.new", &redo[..length]);
+        is_old(&scratch, &old, &format!("cut at {length} of {}", redo.len()));
+        scratch.says("remove d 60000");
+        assert!(!scratch.path("d.redo.new").exists());
+    }
+    assert_eq!(scratch.does("remove d 5"), "removed 5: 2 blocks copied (contract limit 2)\n");
+}
+
+#[test]
+fn an_add_cut_off_after_any_write_is_found_undone_or_done() {
+    let old = Scratch::case_6();
+    let content = miniseed::event(7, 9);
+    for after in 1.. {
+        let scratch = old.copy();
+        let (paths, image, before) = opened(&scratch);
+        let mut disk = before.clone();
+        event_disk::add(&mut disk.catalogue, &mut disk.blocks, 7, &content).expect("there is space");
+        let mut cut = Cut::after(after);
+        let done = commit::add(&paths, &image, &before, &disk, &mut |write| cut.watch(write));
+        drop(image);
+        if cut.made("catalogue named") {
+            assert_eq!(scratch.does("check d"), "sound: 16 blocks\n");
+            assert!(scratch.event(7) == content && scratch.read("d") == disk.blocks);
+        } else {
+            is_old(&scratch, &old, &format!("after {after} writes"));
+            scratch.write("e", &content);
+            scratch.does("add d 7 e");
+        }
+        let both: Vec<_> = events(&scratch).into_iter().filter(|(id, _)| *id != 7).collect();
+        assert_eq!(both, events(&old).into_iter().collect::<Vec<_>>());
+        if done.is_ok() {
+            assert_eq!(cut.made.len(), 9 + 2, "nine blocks and the catalogue's two steps");
+            return;
+        }
+    }
+}
+
+#[test]
+fn the_next_command_tells_that_it_completed_a_removal() {
+    let scratch = Scratch::case_6();
+    remove(&scratch, 5, 3);
+    let said = scratch.says("free d");
+    assert_eq!((said.status, said.out.as_str()), (0, "13 blocks free\n"));
+    assert_eq!(said.err, "evdisk: note: d: completed a removal that had been cut off\n");
+    assert_eq!(scratch.does("free d"), "13 blocks free\n");
+}

@@ -1,0 +1,89 @@
+//! The answers for scripts: what they are, and that they are JSON.
+
+use crate::scratch::Scratch;
+
+/// What follows the JSON value that a text starts with, if it starts with one.
+fn after_value(text: &str) -> Option<&str> {
+    match text.chars().next()? {
+        '{' => after_list(text, '}', |text| after_value(after_text(text)?.strip_prefix(':')?)),
+        '[' => after_list(text, ']', after_value),
+        '"' => after_text(text),
+        _ => {
+            let rest = text.trim_start_matches(|digit: char| digit.is_ascii_digit());
+            let number = &text[..text.len() - rest.len()];
+            (!number.is_empty() && (number == "0" || !number.starts_with('0'))).then_some(rest)
+        }
+    }
+}
+
+/// What follows a text in quotes, which here never has a quote inside.
+fn after_text(text: &str) -> Option<&str> {
+    Some(text.strip_prefix('"')?.split_once('"')?.1)
+}
+
+fn after_list(text: &str, end: char, member: impl Fn(&str) -> Option<&str>) -> Option<&str> {
+    let mut rest = &text[1..];
+    if let Some(after) = rest.strip_prefix(end) {
+        return Some(after);
+    }
+    loop {
+        rest = member(rest)?;
+        match rest.strip_prefix(',') {
+            Some(next) => rest = next,
+            None => return rest.strip_prefix(end),
+        }
+    }
+}
+
+/// Runs the tool and gives its answer, which must be one JSON value and a line's end.
+fn json(scratch: &Scratch, words: &str) -> String {
+    let said = scratch.does(&format!("{words} --json"));
+    assert_eq!(after_value(&said), Some("\n"), "{said}");
+    said.trim_end().to_string()
+}
+
+#[test]
+fn each_command_answers_in_json() {
+    let scratch = Scratch::case_6();
+    scratch.write("e", &miniseed::event(7, 9));
+    assert_eq!(json(&scratch, "format new --blocks 5"), r#"{"blocks":5}"#);
+    let added = r#"{"id":7,"blocks":9,"pieces":[{"first":8,"length":8},{"first":6,"length":1}]}"#;
+    assert_eq!(json(&scratch, "add d 7 e"), added);
+    assert_eq!(json(&scratch, "breaks d 7"), r#"{"id":7,"breaks":1}"#);
+    assert_eq!(json(&scratch, "free d"), r#"{"free":1}"#);
+    assert_eq!(json(&scratch, "check d"), r#"{"blocks":16}"#);
+    assert_eq!(json(&scratch, "remove d 2"), r#"{"id":2,"blocks":2,"copied":0,"limit":0}"#);
+}
+
+#[test]
+fn a_list_in_json_has_all_that_the_table_has() {
+    let scratch = Scratch::disk(6, &[(300, 3)]);
+    let list = r#"{"blocks":6,"free":3,"files":[{"id":300,"blocks":3,"breaks":1,"pieces":[{"first":4,"length":2},"#;
+    let rest = r#"{"first":0,"length":1}]}],"free_pieces":[{"first":1,"length":1},{"first":2,"length":2}]}"#;
+    assert_eq!(json(&scratch, "list d"), format!("{list}{rest}"));
+    scratch.does("remove d 300");
+    let empty = r#"{"blocks":6,"free":6,"files":[],"free_pieces":[{"first":0,"length":4},{"first":4,"length":2}]}"#;
+    assert_eq!(json(&scratch, "list d"), empty);
+}
+
+#[test]
+fn the_log_in_json_is_a_list() {
+    let scratch = Scratch::case_6();
+    assert_eq!(json(&scratch, "log d"), "[]");
+    scratch.does("remove d 5");
+    scratch.does("remove d 2");
+    let log = json(&scratch, "log d");
+    assert!(log.starts_with(r#"[{"date":"20"#), "{log}");
+    assert!(log.contains(r#"Z","id":5,"blocks":3,"copied":2,"limit":2},{"date":"#), "{log}");
+    assert!(log.ends_with(r#"Z","id":2,"blocks":2,"copied":0,"limit":0}]"#), "{log}");
+}
+
+#[test]
+fn commands_whose_answer_is_no_value_have_no_json() {
+    let scratch = Scratch::case_6();
+    for words in ["read d 5 --json", "map d --json"] {
+        let (status, complaint) = scratch.refuses(words);
+        assert_eq!(status, 2);
+        assert!(complaint.contains("--json is no option of this command"), "{complaint}");
+    }
+}

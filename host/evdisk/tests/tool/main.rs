@@ -1,0 +1,13 @@
+//! The tool as its users meet it: words, statuses, JSON, files, and what is left when it is cut off.
+
+#![forbid(unsafe_code)]
+
+mod commands;
+mod crashes;
+mod cut;
+mod help;
+mod json;
+mod locks;
+mod refusals;
+mod scratch;
+mod swapped;

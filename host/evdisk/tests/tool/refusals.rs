@@ -1,0 +1,162 @@
+//! What the commands say when they are not done. `refuses` also sees to it that no file is changed.
+
+use crate::scratch::Scratch;
+use std::fs::File;
+
+fn refused(scratch: &Scratch, words: &str, number: u8, why: &str) {
+    assert_eq!(scratch.refuses(words), (1, format!("evdisk: refused {number}: {why}\n")), "evdisk {words}");
+}
+
+fn complains(scratch: &Scratch, words: &str, status: i32, why: &str) {
+    let (got, complaint) = scratch.refuses(words);
+    assert_eq!(got, status, "evdisk {words}: {complaint}");
+    assert!(complaint.starts_with("evdisk: ") && complaint.contains(why), "evdisk {words}: {complaint}");
+}
+
+const SPACE: &str = "there are fewer free blocks than the file needs";
+const LENGTH: &str = "the length is 0 or no multiple of 512 bytes";
+const END: &str = "the pages go past the end of the file";
+const NO_DISK: &str = "the disk is not 1 to 4,096 blocks of 512 bytes long";
+
+#[test]
+fn the_managers_refusals_come_with_their_numbers() {
+    let scratch = Scratch::case_6();
+    scratch.write("odd", &[0; 511]);
+    scratch.write("empty", &[]);
+    scratch.write("eleven", &[0; 11 * 512]);
+    for words in ["remove d 0", "breaks d 0", "read d 0", "add d 0 odd"] {
+        refused(&scratch, words, 5, "0 is no id");
+    }
+    for words in ["remove d 6", "breaks d 6", "read d 6", "read d 65535 --pages 0"] {
+        refused(&scratch, words, 6, "no file has this id");
+    }
+    refused(&scratch, "add d 5 odd", 7, "a file has this id already");
+    for words in ["add d 7 odd", "add d 7 empty", "read d 5 --pages 0"] {
+        refused(&scratch, words, 8, LENGTH);
+    }
+    refused(&scratch, "add d 7 eleven", 11, SPACE);
+}
+
+#[test]
+fn pages_past_the_end_are_refused_however_many() {
+    let scratch = Scratch::case_6();
+    let huge = "99999999999999999999999999";
+    for words in ["--first 2 --pages 2", "--first 3", "--pages 4"] {
+        refused(&scratch, &format!("read d 5 {words}"), 9, END);
+    }
+    refused(&scratch, &format!("read d 5 --first {huge}"), 9, END);
+    refused(&scratch, &format!("read d 5 --pages {huge} --output new"), 9, END);
+}
+
+#[test]
+fn a_disk_has_1_to_4096_blocks() {
+    let scratch = Scratch::new();
+    for blocks in ["0", "4097", "18446744073709551616"] {
+        refused(&scratch, &format!("format d --blocks {blocks}"), 2, NO_DISK);
+    }
+    scratch.write("odd", &[0; 700]);
+    refused(&scratch, "format odd --force", 2, NO_DISK);
+    complains(&scratch, "format d", 2, "a new image needs --blocks C");
+    complains(&scratch, "format d --blocks 1e3", 2, "--blocks: '1e3' is no number");
+}
+
+#[test]
+fn the_65th_file_is_refused() {
+    let scratch = Scratch::disk(80, &(1..=64).map(|id| (id, 1)).collect::<Vec<_>>());
+    refused(&scratch, "add d 65 event-1", 10, "there are 64 files already");
+}
+
+#[test]
+fn a_file_larger_than_the_disk_is_refused_by_its_length() {
+    let scratch = Scratch::case_6();
+    let sparse = |name: &str, length: u64| {
+        let file = File::create(scratch.path(name)).expect("a scratch file");
+        file.set_len(length).expect("a file with a hole");
+    };
+    sparse("big", 1 << 20);
+    sparse("bigger", (1 << 20) + 1);
+    refused(&scratch, "add d 7 big", 11, SPACE);
+    refused(&scratch, "add d 7 bigger", 8, LENGTH);
+    refused(&scratch, "add d 7 /dev/zero", 11, SPACE);
+    sparse("huge", 1 << 40);
+    let said = scratch.says("add d 7 huge");
+    assert_eq!((said.status, said.err), (1, format!("evdisk: refused 11: {SPACE}\n")));
+    std::fs::remove_file(scratch.path("huge")).expect("a scratch file");
+    assert_eq!(scratch.does("free d"), "10 blocks free\n");
+}
+
+#[test]
+fn ids_and_numbers_that_are_none_are_wrong_usage() {
+    let scratch = Scratch::case_6();
+    for id in ["65536", "-1", "abc", "5x", "+5", "0x5", "4294967301", "5.0"] {
+        for words in [format!("remove d {id}"), format!("read d {id}"), format!("add d {id} event-5")] {
+            complains(&scratch, &words, 2, &format!("'{id}' is no id: an id is a number from 1 to 65535"));
+        }
+    }
+    complains(&scratch, "read d 5 --first x", 2, "--first: 'x' is no number");
+    complains(&scratch, "map d --width 0", 2, "--width: '0' is not 1 to 4096");
+}
+
+#[test]
+fn wrong_command_lines_are_told_how_they_should_be() {
+    let scratch = Scratch::case_6();
+    complains(&scratch, "", 2, "which command?");
+    complains(&scratch, "erase d", 2, "there is no command 'erase'");
+    complains(&scratch, "remove d", 2, "ID is missing\nusage: evdisk remove IMAGE ID [--json]\n");
+    complains(&scratch, "remove d 5 9", 2, "'9' is too much");
+    complains(&scratch, "remove d 5 --quick", 2, "--quick is no option of this command");
+    complains(&scratch, "read d 5 --first 1 --first 2", 2, "--first stands twice");
+    complains(&scratch, "read d 5 --first", 2, "--first needs a value");
+    complains(&scratch, "list d --json=yes", 2, "--json takes no value");
+}
+
+#[test]
+fn files_that_are_not_there_or_not_right_are_named() {
+    let scratch = Scratch::case_6();
+    complains(&scratch, "list none", 3, "none: No such file or directory");
+    complains(&scratch, "add d 7 none", 3, "none: No such file or directory");
+    complains(&scratch, "add d 7 .", 3, ".: Is a directory");
+    complains(&scratch, "list event-5", 3, "event-5.cat: No such file or directory");
+    complains(&scratch, "read d 5 --output event-9", 3, "event-9: File exists");
+    complains(&scratch, "read d 5 --output d", 3, "d: File exists");
+    complains(&scratch, "map d --svg d.cat", 3, "d.cat: File exists");
+    complains(&scratch, "format d --blocks 16", 3, "d: is there already; --force formats it");
+    complains(&scratch, "format d --blocks 8 --force", 2, "the image has 16 blocks: leave --blocks out");
+}
+
+#[test]
+fn a_damaged_disk_is_refused_by_every_command() {
+    let commands = ["add d 7 event-5", "remove d 5", "read d 5", "check d"];
+    let by_catalogue = ["list d", "breaks d 5", "free d", "map d"];
+    let damaged = |name: &str, bytes: &dyn Fn(&mut Vec<u8>)| {
+        let scratch = Scratch::case_6();
+        let mut content = scratch.read(name);
+        bytes(&mut content);
+        scratch.write(name, &content);
+        scratch
+    };
+    let unsound = damaged("d.cat", &|bytes| bytes[9] ^= 1);
+    let short = damaged("d.cat", &|bytes| bytes.truncate(4095));
+    let long = damaged("d.cat", &|bytes| bytes.push(0));
+    for words in commands.iter().chain(&by_catalogue) {
+        refused(&unsound, words, 3, "the catalogue is not sound");
+        refused(&short, words, 1, "the catalogue is not 4,096 bytes long");
+        refused(&long, words, 1, "the catalogue is not 4,096 bytes long");
+    }
+    let cut = damaged("d", &|bytes| bytes.truncate(8191));
+    let grown = damaged("d", &|bytes| bytes.resize(3 << 20, 0));
+    for words in commands {
+        refused(&cut, words, 4, "the disk is not as long as the catalogue says");
+        refused(&grown, words, 4, "the disk is not as long as the catalogue says");
+    }
+}
+
+#[test]
+fn a_log_that_is_none_is_named_with_its_line() {
+    let scratch = Scratch::case_6();
+    scratch.does("remove d 5");
+    let mut log = scratch.read("d.log");
+    log.extend_from_slice(b"by hand\n");
+    scratch.write("d.log", &log);
+    complains(&scratch, "log d", 3, "d.log: line 2 is no line of a shift log");
+}

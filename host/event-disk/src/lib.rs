@@ -1,0 +1,98 @@
+//! The event disk manager of a volcano station, for Rust.
+//!
+//! The calls are proved: for every catalogue, disk and argument the answer and the bytes afterwards are those that the
+//! definitions in `crates/manager/specs` give. This crate lends them Rust's slices, so that a caller cannot pass a
+//! length that is not the buffer's, and cannot let a buffer that is written overlap another. It adds nothing else.
+//!
+//! A disk is 1 to 4,096 blocks of 512 bytes, a catalogue 4,096 bytes. Both are the caller's: keep the bytes of both
+//! between calls. A refused call changes no byte.
+//!
+//! ```
+//! let mut disk = vec![0; 16 * event_disk::BLOCK];
+//! let mut cat = [0; event_disk::CATALOGUE];
+//! event_disk::format(&mut cat, &disk)?;
+//! event_disk::add(&mut cat, &mut disk, 5, &[7; 3 * event_disk::BLOCK])?;
+//! let mut out = [0; event_disk::BLOCK];
+//! assert_eq!(event_disk::read(&cat, &disk, 5, 2, &mut out)?, 1);
+//! assert_eq!(out, [7; event_disk::BLOCK]);
+//! assert_eq!(event_disk::read(&cat, &disk, 5, 3, &mut out), Err(event_disk::Refusal::PastEnd));
+//! # Ok::<(), event_disk::Refusal>(())
+//! ```
+
+mod exports;
+mod listing;
+mod refusal;
+
+pub use listing::{carries, list, File, Listing, Piece};
+pub use refusal::Refusal;
+
+/// The bytes of a block.
+pub const BLOCK: usize = 512;
+/// The bytes of a catalogue.
+pub const CATALOGUE: usize = 4096;
+/// The most blocks of a disk.
+pub const MOST_BLOCKS: usize = 4096;
+/// The most files of a disk.
+pub const MOST_FILES: usize = 64;
+
+/// The answer, or the refusal that a negative number stands for.
+fn answer(number: i64) -> Result<u64, Refusal> {
+    match u64::try_from(number) {
+        Ok(n) => Ok(n),
+        Err(_) => Err(Refusal::of_number(number.unsigned_abs()).expect("the calls have no other refusals")),
+    }
+}
+
+/// Makes the catalogue that of a disk with no file, and answers the number of its blocks. The disk is not changed.
+pub fn format(cat: &mut [u8], disk: &[u8]) -> Result<u64, Refusal> {
+    // SAFETY: the pointers and lengths are those of slices, and a slice that is written overlaps no other.
+    answer(unsafe { exports::evdisk_format(cat.as_mut_ptr(), cat.len(), disk.as_ptr(), disk.len()) })
+}
+
+/// Adds a file with the pages of `content`, 512 bytes each, and answers their number.
+pub fn add(cat: &mut [u8], disk: &mut [u8], id: u16, content: &[u8]) -> Result<u64, Refusal> {
+    // SAFETY: as in `format`.
+    answer(unsafe {
+        exports::evdisk_add(
+            cat.as_mut_ptr(),
+            cat.len(),
+            disk.as_mut_ptr(),
+            disk.len(),
+            id,
+            content.as_ptr(),
+            content.len(),
+        )
+    })
+}
+
+/// Removes a file, joins free space, and answers how many blocks were copied for it.
+pub fn remove(cat: &mut [u8], disk: &mut [u8], id: u16) -> Result<u64, Refusal> {
+    // SAFETY: as in `format`.
+    answer(unsafe { exports::evdisk_remove(cat.as_mut_ptr(), cat.len(), disk.as_mut_ptr(), disk.len(), id) })
+}
+
+/// Fills `out` with pages of a file from the page `first` on, and answers how many pages that is. Pages count from 0.
+pub fn read(cat: &[u8], disk: &[u8], id: u16, first: u64, out: &mut [u8]) -> Result<u64, Refusal> {
+    // SAFETY: as in `format`.
+    answer(unsafe {
+        exports::evdisk_read(cat.as_ptr(), cat.len(), disk.as_ptr(), disk.len(), id, first, out.as_mut_ptr(), out.len())
+    })
+}
+
+/// In how many pieces a file lies, less one.
+pub fn breaks(cat: &[u8], id: u16) -> Result<u64, Refusal> {
+    // SAFETY: as in `format`.
+    answer(unsafe { exports::evdisk_breaks(cat.as_ptr(), cat.len(), id) })
+}
+
+/// The number of free blocks.
+pub fn free(cat: &[u8]) -> Result<u64, Refusal> {
+    // SAFETY: as in `format`.
+    answer(unsafe { exports::evdisk_free(cat.as_ptr(), cat.len()) })
+}
+
+/// The number of blocks, if the catalogue is sound and the disk as long as it says.
+pub fn check(cat: &[u8], disk: &[u8]) -> Result<u64, Refusal> {
+    // SAFETY: as in `format`.
+    answer(unsafe { exports::evdisk_check(cat.as_ptr(), cat.len(), disk.as_ptr(), disk.len()) })
+}

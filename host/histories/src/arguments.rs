@@ -1,0 +1,116 @@
+//! The arguments of the program.
+
+pub const HELP: &str = "\
+histories: runs the proved event disk manager beside a second implementation and the plain book
+
+  histories random [--seed S] [--calls N] [--long]   long random histories
+  histories small [--depth D]                        all histories of disks of 1 to 6 blocks
+  histories damage [--seed S] [--count N]            damaged catalogues, buffers of wrong lengths
+  histories stack                                    the stack that each exported call uses
+  histories all [any of these options]               all of the above
+
+  --seed S    the number that fixes a run, 1 if not given
+  --calls N   how many random calls at least, 200000 if not given
+  --long      ten million random calls
+  --depth D   how many adds and removes a list has at most; chosen for each disk if not given
+  --count N   how many damaged catalogues, 200000 if not given
+  --help      this text
+
+It ends with 0 if nothing differed, with 1 if something did, and with 2 if the arguments are wrong.
+";
+
+/// What to run.
+#[derive(Clone, Debug, PartialEq, Eq)]
+pub enum Command {
+    Help,
+    Random,
+    Small,
+    Damage,
+    Stack,
+    /// One call of the stack measurement, made in a process of its own: the name of the scene, and the bytes left.
+    StackScene(String, usize),
+    All,
+}
+
+/// What the options say.
+#[derive(Clone, Debug, PartialEq, Eq)]
+pub struct Options {
+    pub seed: u64,
+    pub calls: u64,
+    pub depth: Option<usize>,
+    pub count: u64,
+}
+
+const NONE: &[&str] = &[];
+
+/// The command and its options, or what is wrong with them.
+pub fn parse(mut arguments: impl Iterator<Item = String>) -> Result<(Command, Options), String> {
+    let mut options = Options { seed: 1, calls: 200_000, depth: None, count: 200_000 };
+    let name = arguments.next().ok_or("a command is missing")?;
+    let (command, allowed) = match name.as_str() {
+        "--help" | "-h" | "help" => (Command::Help, NONE),
+        "random" => (Command::Random, &["--seed", "--calls", "--long"][..]),
+        "small" => (Command::Small, &["--depth"][..]),
+        "damage" => (Command::Damage, &["--seed", "--count"][..]),
+        "stack" => (Command::Stack, NONE),
+        "stack-scene" => {
+            let scene = arguments.next().ok_or("a scene is missing")?;
+            (Command::StackScene(scene, number("the bytes left", arguments.next())?), NONE)
+        }
+        "all" => (Command::All, &["--seed", "--calls", "--long", "--depth", "--count"][..]),
+        _ => return Err(format!("'{name}' is no command")),
+    };
+    while let Some(option) = arguments.next() {
+        if option == "--help" {
+            return Ok((Command::Help, options));
+        }
+        if !allowed.contains(&option.as_str()) {
+            return Err(format!("'{option}' is no option of {name}"));
+        }
+        set(&mut options, &option, &mut arguments)?;
+    }
+    Ok((command, options))
+}
+
+/// Sets one option, with the value after it.
+fn set(options: &mut Options, option: &str, values: &mut impl Iterator<Item = String>) -> Result<(), String> {
+    match option {
+        "--long" => options.calls = 10_000_000,
+        "--seed" => options.seed = number(option, values.next())?,
+        "--calls" => options.calls = number(option, values.next())?,
+        "--count" => options.count = number(option, values.next())?,
+        _ => options.depth = Some(number(option, values.next())?),
+    }
+    Ok(())
+}
+
+fn number<N: std::str::FromStr>(what: &str, value: Option<String>) -> Result<N, String> {
+    let value = value.ok_or_else(|| format!("{what} needs a number"))?;
+    value.parse().map_err(|_| format!("{what} needs a number, not '{value}'"))
+}
+
+#[cfg(test)]
+mod tests {
+    use super::*;
+
+    fn parsed(words: &str) -> Result<(Command, Options), String> {
+        parse(words.split_whitespace().map(String::from))
+    }
+
+    #[test]
+    fn commands_and_options() {
+        let (command, options) = parsed("random --seed 7 --calls 30").expect("these are right");
+        assert_eq!((command, options.seed, options.calls), (Command::Random, 7, 30));
+        assert_eq!(parsed("all --long --depth 3 --count 5").map(|(_, o)| (o.calls, o.depth, o.count)), {
+            Ok((10_000_000, Some(3), 5))
+        });
+        assert_eq!(parsed("damage --help").map(|(command, _)| command), Ok(Command::Help));
+    }
+
+    #[test]
+    fn wrong_arguments() {
+        for words in ["", "rndom", "random --depth 3", "random --seed", "random --seed x", "small x", "stack --long"] {
+            assert!(parsed(words).is_err(), "{words}");
+        }
+    }
+}

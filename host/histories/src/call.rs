@@ -1,0 +1,88 @@
+//! A call with its arguments, and the lengths of the buffers that are lent to it.
+
+use std::fmt;
+
+use crate::numbers::mix;
+
+/// A call and its arguments. Contents and outputs are given by their length in bytes.
+#[derive(Clone, Copy, Debug, PartialEq, Eq)]
+pub enum Call {
+    Format,
+    Add { id: u16, length: usize },
+    Remove { id: u16 },
+    Read { id: u16, first: u64, length: usize },
+    Breaks { id: u16 },
+    Free,
+    Check,
+}
+
+/// The names of the calls in the order of `Call::number`.
+pub const NAMES: [&str; 7] = ["format", "add", "remove", "read", "breaks", "free", "check"];
+
+impl Call {
+    /// The place of the call in `NAMES`.
+    pub fn number(&self) -> usize {
+        match self {
+            Call::Format => 0,
+            Call::Add { .. } => 1,
+            Call::Remove { .. } => 2,
+            Call::Read { .. } => 3,
+            Call::Breaks { .. } => 4,
+            Call::Free => 5,
+            Call::Check => 6,
+        }
+    }
+
+    /// The bytes of the output, 0 for a call without one.
+    pub fn output_length(&self) -> usize {
+        match self {
+            Call::Read { length, .. } => *length,
+            _ => 0,
+        }
+    }
+}
+
+impl fmt::Display for Call {
+    fn fmt(&self, f: &mut fmt::Formatter<'_>) -> fmt::Result {
+        f.write_str(NAMES[self.number()])?;
+        match self {
+            Call::Add { id, length } => write!(f, " id {id}, content of {length} bytes"),
+            Call::Remove { id } | Call::Breaks { id } => write!(f, " id {id}"),
+            Call::Read { id, first, length } => write!(f, " id {id}, first page {first}, output of {length} bytes"),
+            Call::Format | Call::Free | Call::Check => Ok(()),
+        }
+    }
+}
+
+/// The lengths of the catalogue and disk buffers that a call is lent.
+#[derive(Clone, Copy, Debug, PartialEq, Eq)]
+pub struct Lent {
+    pub cat: usize,
+    pub disk: usize,
+}
+
+impl Lent {
+    /// The right lengths for a disk of some blocks.
+    pub fn right(blocks: usize) -> Lent {
+        Lent { cat: model::CATALOGUE, disk: blocks * model::BLOCK }
+    }
+}
+
+impl fmt::Display for Lent {
+    fn fmt(&self, f: &mut fmt::Formatter<'_>) -> fmt::Result {
+        write!(f, "catalogue of {} bytes, disk of {} bytes", self.cat, self.disk)
+    }
+}
+
+/// Fills a buffer with a content of some bytes, whose pages all differ: they are stamped with the number of the call,
+/// the id and the page.
+pub fn stamp(content: &mut Vec<u8>, call: u64, id: u16, length: usize) {
+    content.resize(length, 0);
+    for (page, bytes) in content.chunks_mut(model::BLOCK).enumerate() {
+        let mut word = mix(call << 32 ^ u64::from(id) << 16 ^ page as u64);
+        for place in bytes.chunks_mut(8) {
+            place.copy_from_slice(&word.to_le_bytes()[..place.len()]);
+            word = word.wrapping_add(0x9E37_79B9_7F4A_7C15);
+        }
+    }
+}

@@ -1,0 +1,78 @@
+//! Sound catalogues of all kinds, also such as no list of calls leads to.
+
+use model::{Catalogue, Entry, Pair, MOST_FILES};
+
+use crate::numbers::Numbers;
+
+/// A sound catalogue of a disk of some blocks: the disk is cut into sections, which go to owners of distinct lengths.
+pub fn any_sound(blocks: u16, numbers: &mut Numbers) -> Catalogue {
+    let sections = cut(blocks, numbers);
+    let most = (0..=12).map(|height| of_height(&sections, height).count()).max().unwrap_or(1);
+    let owners = numbers.within(most, (MOST_FILES + 1).min(most + 12));
+    let mut held: Vec<Vec<Pair>> = vec![Vec::new(); owners];
+    let mut order: Vec<usize> = (0..owners).collect();
+    for height in 0..=12 {
+        numbers.shuffle(&mut order);
+        for (pair, &owner) in of_height(&sections, height).zip(&order) {
+            held[owner].push(*pair);
+        }
+    }
+    for pairs in &mut held {
+        pairs.sort_by_key(|pair| pair.first);
+    }
+    let free = held.pop().unwrap_or_default();
+    held.retain(|pairs| !pairs.is_empty());
+    let ids = distinct_ids(held.len(), numbers);
+    let entries = ids.into_iter().zip(held).map(|(id, pairs)| entry(id, pairs)).collect();
+    Catalogue { blocks, entries, free }
+}
+
+/// The sound catalogue of 2^(top + 1) blocks on which the removal of id 1, a file of one block, copies most: at each
+/// height below the top the lowest free section is met by one that is not its buddy.
+pub fn staircase(top: u32) -> Catalogue {
+    let free_piece = |height: u32| Pair { first: 3 << height, length: 1 << height };
+    let held_piece = |height: u32| Pair { first: 2 << height, length: 1 << height };
+    let free = [Pair { first: 0, length: 1 }].into_iter().chain((1..top).map(free_piece)).collect();
+    let held = [Pair { first: 1, length: 1 }].into_iter().chain((1..top).map(held_piece)).collect();
+    let entries = vec![entry(1, vec![held_piece(0)]), entry(2, held), entry(3, vec![free_piece(0)])];
+    Catalogue { blocks: 2 << top, entries, free }
+}
+
+fn of_height(sections: &[Pair], height: u32) -> impl Iterator<Item = &Pair> {
+    sections.iter().filter(move |pair| pair.length == 1 << height)
+}
+
+fn entry(id: u16, pairs: Vec<Pair>) -> Entry {
+    Entry { id, blocks: pairs.iter().map(|pair| pair.length).sum(), pairs }
+}
+
+/// Sections that tile the disk, of each height at most as many as there can be owners.
+fn cut(blocks: u16, numbers: &mut Numbers) -> Vec<Pair> {
+    let mut sections = Vec::new();
+    let mut first = 0;
+    for height in (0..=12).rev().filter(|height| blocks >> height & 1 == 1) {
+        sections.push(Pair { first, length: 1 << height });
+        first += 1 << height;
+    }
+    for _ in 0..numbers.within(0, usize::from(blocks).min(400)) {
+        let place = numbers.within(0, sections.len() - 1);
+        let Pair { first, length } = sections[place];
+        let half = length / 2;
+        let fellows = sections.iter().filter(|pair| pair.length == half).count();
+        if half > 0 && fellows + 2 <= MOST_FILES + 1 {
+            sections[place] = Pair { first, length: half };
+            sections.push(Pair { first: first + half, length: half });
+        }
+    }
+    sections
+}
+
+/// So many ids, rising: close together or far apart.
+fn distinct_ids(count: usize, numbers: &mut Numbers) -> Vec<u16> {
+    let mut ids = std::collections::BTreeSet::new();
+    let greatest = numbers.pick(&[200, 65_535]);
+    while ids.len() < count {
+        ids.insert(numbers.within(1, greatest) as u16);
+    }
+    ids.into_iter().collect()
+}

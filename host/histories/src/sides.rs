@@ -1,0 +1,83 @@
+//! The buffers of one implementation, and its calls on them.
+
+use model::{Answer, BLOCK, CATALOGUE};
+
+use crate::call::{Call, Lent};
+
+/// Bytes before and after a lent buffer, which no call may change.
+pub const GUARD: usize = 61;
+/// The longest catalogue buffer that is lent.
+const LONGEST_CATALOGUE: usize = 2 * CATALOGUE;
+/// What outputs hold before a read.
+pub const UNREAD: u8 = 0xEE;
+
+/// A buffer within guards.
+pub struct Guarded {
+    pub bytes: Vec<u8>,
+}
+
+impl Guarded {
+    fn new(longest: usize) -> Guarded {
+        Guarded { bytes: vec![0xA7; longest + 2 * GUARD] }
+    }
+
+    /// So many bytes from the start.
+    pub fn lent(&self, length: usize) -> &[u8] {
+        &self.bytes[GUARD..GUARD + length]
+    }
+
+    /// So many bytes from the start, to be changed.
+    pub fn lent_mut(&mut self, length: usize) -> &mut [u8] {
+        &mut self.bytes[GUARD..GUARD + length]
+    }
+}
+
+/// The buffers of one implementation.
+pub struct Side {
+    pub cat: Guarded,
+    pub disk: Guarded,
+    pub out: Guarded,
+}
+
+impl Side {
+    /// Buffers for at most so many blocks.
+    pub fn new(most_blocks: usize) -> Side {
+        let out = Guarded { bytes: Vec::new() };
+        Side { cat: Guarded::new(LONGEST_CATALOGUE), disk: Guarded::new(most_blocks * BLOCK), out }
+    }
+
+    /// Makes the output and its guards hold the mark of what is not read.
+    pub fn clear_output(&mut self, length: usize) {
+        self.out.bytes.clear();
+        self.out.bytes.resize(length + 2 * GUARD, UNREAD);
+    }
+
+    /// Makes a call of the second implementation.
+    pub fn call_model(&mut self, call: &Call, lent: Lent, content: &[u8]) -> Answer {
+        let (cat, disk) = (self.cat.lent_mut(lent.cat), self.disk.lent_mut(lent.disk));
+        match *call {
+            Call::Format => model::format(cat, disk),
+            Call::Add { id, .. } => model::add(cat, disk, id, content),
+            Call::Remove { id } => model::remove(cat, disk, id),
+            Call::Read { id, first, length } => model::read(cat, disk, id, first, self.out.lent_mut(length)),
+            Call::Breaks { id } => model::breaks(cat, id),
+            Call::Free => model::free(cat),
+            Call::Check => model::check(cat, disk),
+        }
+    }
+
+    /// Makes a call of the proved manager.
+    pub fn call_proved(&mut self, call: &Call, lent: Lent, content: &[u8]) -> Answer {
+        let (cat, disk) = (self.cat.lent_mut(lent.cat), self.disk.lent_mut(lent.disk));
+        let answer = match *call {
+            Call::Format => event_disk::format(cat, disk),
+            Call::Add { id, .. } => event_disk::add(cat, disk, id, content),
+            Call::Remove { id } => event_disk::remove(cat, disk, id),
+            Call::Read { id, first, length } => event_disk::read(cat, disk, id, first, self.out.lent_mut(length)),
+            Call::Breaks { id } => event_disk::breaks(cat, id),
+            Call::Free => event_disk::free(cat),
+            Call::Check => event_disk::check(cat, disk),
+        };
+        answer.map_err(|refusal| refusal.number())
+    }
+}

@@ -1,0 +1,85 @@
+//! What was run, counted.
+
+use model::Answer;
+
+use crate::call::{Call, NAMES};
+use crate::watch::Copied;
+
+/// Counts of calls, refusals and removals.
+#[derive(Default)]
+pub struct Tally {
+    pub calls: u64,
+    kinds: [u64; NAMES.len()],
+    refusals: [u64; 12],
+    removals: u64,
+    copied: u64,
+    most_copied: u64,
+    at_bound: u64,
+    most_at_bound: u64,
+}
+
+impl Tally {
+    /// Counts a call that begins.
+    pub fn begin(&mut self, call: &Call) {
+        self.calls += 1;
+        self.kinds[call.number()] += 1;
+    }
+
+    /// Counts the answer of a call.
+    pub fn end(&mut self, answer: Answer) {
+        if let Err(number) = answer {
+            self.refusals[usize::from(number)] += 1;
+        }
+    }
+
+    /// Counts a removal. One that may copy nothing reaches its bound in no way worth counting.
+    pub fn count_removal(&mut self, copied: Copied) {
+        self.removals += 1;
+        self.copied += copied.blocks;
+        self.most_copied = self.most_copied.max(copied.blocks);
+        if copied.bound > 0 && copied.blocks == copied.bound {
+            self.at_bound += 1;
+            self.most_at_bound = self.most_at_bound.max(copied.bound);
+        }
+    }
+
+    /// Counts what another has counted too.
+    pub fn add(&mut self, other: &Tally) {
+        self.calls += other.calls;
+        self.removals += other.removals;
+        self.copied += other.copied;
+        self.at_bound += other.at_bound;
+        self.most_copied = self.most_copied.max(other.most_copied);
+        self.most_at_bound = self.most_at_bound.max(other.most_at_bound);
+        let counts = self.kinds.iter_mut().chain(&mut self.refusals);
+        for (count, more) in counts.zip(other.kinds.iter().chain(&other.refusals)) {
+            *count += more;
+        }
+    }
+
+    /// How often a refusal was given.
+    pub fn refused(&self, number: u8) -> u64 {
+        self.refusals[usize::from(number)]
+    }
+
+    /// The removals that copied as many blocks as they may, and at least one.
+    pub fn at_bound(&self) -> u64 {
+        self.at_bound
+    }
+
+    /// Calls by kind, and refusals by number.
+    pub fn print_calls(&self) {
+        let kinds = NAMES.iter().zip(self.kinds).map(|(name, count)| format!("{name} {count}"));
+        println!("  calls {}: {}", self.calls, kinds.collect::<Vec<_>>().join(", "));
+        let refusals = (1..=11).map(|number| format!("{number}: {}", self.refusals[number]));
+        println!("  refusals by number: {}", refusals.collect::<Vec<_>>().join(", "));
+    }
+
+    /// The removals.
+    pub fn print_removals(&self) {
+        println!(
+            "  removals {}: {} blocks copied, at most {} in one; {} reached the carry bound, the greatest at {}",
+            self.removals, self.copied, self.most_copied, self.at_bound, self.most_at_bound
+        );
+    }
+}

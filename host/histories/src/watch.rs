@@ -1,0 +1,104 @@
+//! The book beside the manager: what the one claim about the whole list of calls says at each call.
+
+use model::{Answer, Book, Pair, BLOCK};
+
+use crate::call::Call;
+use crate::twin::{told, Difference, Twin};
+
+/// A removal that was answered: how many blocks it copied, and the limit.
+#[derive(Clone, Copy, Debug, PartialEq, Eq)]
+pub struct Copied {
+    pub blocks: u64,
+    pub bound: u64,
+}
+
+fn require(holds: bool, otherwise: impl FnOnce() -> String) -> Result<(), Difference> {
+    if holds {
+        Ok(())
+    } else {
+        Err(otherwise())
+    }
+}
+
+/// Makes the call in the book too and compares the answer. The call had buffers of the right lengths.
+pub fn follow(book: &mut Book, call: &Call, content: &[u8], twin: &Twin, answer: Answer) -> Result<(), Difference> {
+    let pieces = |book: &Book, id| u64::from(book.pages(id).count_ones());
+    let expected = match *call {
+        Call::Format => {
+            *book = Book::new(book.check());
+            Ok(book.check())
+        }
+        Call::Add { id, .. } => book.add(id, content),
+        // The number is not the book's; that there is one is.
+        Call::Remove { id } => book.remove(id).map(|()| answer.unwrap_or(0)),
+        Call::Read { id, first, length } => book.read(id, first, length).map(|p| (p.len() / BLOCK) as u64),
+        Call::Breaks { id } => book.breaks(id).map(|_| pieces(book, id) - 1),
+        Call::Free => Ok(book.free()),
+        Call::Check => Ok(book.check()),
+    };
+    require(expected == answer, || format!("the manager gave {}, the book {}", told(answer), told(expected)))?;
+    match *call {
+        Call::Read { id, first, length } if answer.is_ok() => {
+            require(book.read(id, first, length) == Ok(twin.output(length)), || "output is not the book's".into())
+        }
+        _ => Ok(()),
+    }
+}
+
+/// The copies of a removal that was answered, of a file of n blocks with f free ones: at most the carries of f + n.
+pub fn within_bound(f: u64, n: u64, blocks: u64) -> Result<Copied, Difference> {
+    let bound = model::carries(f, n);
+    require(bound == event_disk::carries(f, n), || format!("two carry bounds differ for f {f}, n {n}"))?;
+    require(blocks <= bound, || format!("{blocks} blocks were copied, the limit for f {f}, n {n} is {bound}"))?;
+    Ok(Copied { blocks, bound })
+}
+
+/// What holds of catalogue and disk after every list of calls: ids, n, pieces and pages are the book's.
+pub fn compare_state(book: &Book, twin: &Twin) -> Result<(), Difference> {
+    let catalogue = model::sound(twin.catalogue()).ok_or("the catalogue is not sound")?;
+    let disk = twin.disk(usize::from(catalogue.blocks));
+    require(u64::from(catalogue.blocks) == book.check(), || "C is not the book's".into())?;
+    let ids = catalogue.entries.iter().map(|e| (e.id, u64::from(e.blocks)));
+    require(ids.eq(book.lines().map(|(id, pages)| (id, (pages.len() / BLOCK) as u64))), || {
+        "ids and n are not the book's".into()
+    })?;
+    for (entry, (id, pages)) in catalogue.entries.iter().zip(book.lines()) {
+        require(entry.pairs.len() as u32 == entry.blocks.count_ones(), || {
+            format!("pieces of {id}: not the ones of n")
+        })?;
+        require(pages_lie_in(&entry.pairs, pages, disk), || format!("the pieces of {id} do not hold its pages"))?;
+    }
+    let free_pieces = catalogue.free.len() as u32;
+    require(u64::from(catalogue.free_blocks()) == book.free(), || "f is not the book's".into())?;
+    require(free_pieces == (book.free() as u32).count_ones(), || "free pieces are not the ones of f".into())?;
+    let all = catalogue.entries.iter().flat_map(|e| &e.pairs).chain(&catalogue.free);
+    require(tile(all.copied().collect(), catalogue.blocks), || "a block is not in exactly one piece".into())
+}
+
+/// Whether the pieces, longest first, hold these pages in order.
+fn pages_lie_in(pairs: &[Pair], pages: &[u8], disk: &[u8]) -> bool {
+    let mut pieces = pairs.to_vec();
+    pieces.sort_by_key(|piece| std::cmp::Reverse(piece.length));
+    let mut rest = pages;
+    pieces.iter().all(|piece| {
+        let (start, length) = (usize::from(piece.first) * BLOCK, usize::from(piece.length) * BLOCK);
+        match rest.split_at_checked(length) {
+            Some((here, later)) => {
+                rest = later;
+                here == &disk[start..start + length]
+            }
+            None => false,
+        }
+    }) && rest.is_empty()
+}
+
+/// Whether each piece starts where the one before ends, from block 0 to C.
+fn tile(mut pieces: Vec<Pair>, blocks: u16) -> bool {
+    pieces.sort_by_key(|piece| piece.first);
+    let mut end = 0;
+    pieces.iter().all(|piece| {
+        let adjoins = piece.first == end;
+        end += piece.length;
+        adjoins
+    }) && end == blocks
+}

@@ -1,0 +1,96 @@
+//! The plain book: lines of an id and its pages. It sees C and the arguments of the calls, and nothing else.
+
+use std::collections::BTreeMap;
+
+use crate::{Answer, BLOCK, MOST_FILES};
+
+/// The book of a disk.
+#[derive(Clone, Debug, PartialEq, Eq)]
+pub struct Book {
+    blocks: u64,
+    lines: BTreeMap<u16, Vec<u8>>,
+}
+
+/// The pages that a length of bytes is: 8 if it is none.
+fn pages_in(length: usize) -> Result<u64, u8> {
+    match length % BLOCK {
+        0 if length > 0 => Ok((length / BLOCK) as u64),
+        _ => Err(8),
+    }
+}
+
+impl Book {
+    /// The book of a disk of C blocks, with no line.
+    pub fn new(blocks: u64) -> Book {
+        Book { blocks, lines: BTreeMap::new() }
+    }
+
+    /// The ids and pages of the lines, by rising id.
+    pub fn lines(&self) -> impl ExactSizeIterator<Item = (u16, &[u8])> {
+        self.lines.iter().map(|(&id, pages)| (id, &pages[..]))
+    }
+
+    /// The pages of a line: 5 for id 0, 6 if no line has the id.
+    fn line(&self, id: u16) -> Result<&[u8], u8> {
+        match id {
+            0 => Err(5),
+            _ => self.lines.get(&id).map(|pages| &pages[..]).ok_or(6),
+        }
+    }
+
+    /// The number of pages of a line, 0 if there is none.
+    pub fn pages(&self, id: u16) -> u64 {
+        self.line(id).map_or(0, |pages| (pages.len() / BLOCK) as u64)
+    }
+
+    /// f: C less the pages in all lines.
+    pub fn free(&self) -> u64 {
+        self.blocks - self.lines.keys().map(|&id| self.pages(id)).sum::<u64>()
+    }
+
+    /// Check answers C.
+    pub fn check(&self) -> u64 {
+        self.blocks
+    }
+
+    /// Writes a line, and answers the count of its pages.
+    pub fn add(&mut self, id: u16, content: &[u8]) -> Answer {
+        if id == 0 {
+            return Err(5);
+        }
+        if self.lines.contains_key(&id) {
+            return Err(7);
+        }
+        let n = pages_in(content.len())?;
+        if self.lines.len() >= MOST_FILES {
+            return Err(10);
+        }
+        if n > self.free() {
+            return Err(11);
+        }
+        self.lines.insert(id, content.to_vec());
+        Ok(n)
+    }
+
+    /// Strikes a line. The number that a removal answers is not the book's.
+    pub fn remove(&mut self, id: u16) -> Result<(), u8> {
+        self.line(id)?;
+        self.lines.remove(&id);
+        Ok(())
+    }
+
+    /// The pages that a read of an output of some bytes gives.
+    pub fn read(&self, id: u16, first: u64, output_length: usize) -> Result<&[u8], u8> {
+        let line = self.line(id)?;
+        let count = pages_in(output_length)?;
+        match first.checked_add(count) {
+            Some(end) if end <= self.pages(id) => Ok(&line[first as usize * BLOCK..end as usize * BLOCK]),
+            _ => Err(9),
+        }
+    }
+
+    /// Whether breaks is refused. The number that it answers is not the book's.
+    pub fn breaks(&self, id: u16) -> Result<(), u8> {
+        self.line(id).map(|_| ())
+    }
+}

@@ -1,0 +1,35 @@
+//! A second implementation of the event disk manager, written from the scope document alone.
+//!
+//! It keeps no list of pieces. A disk is a map from each block to its owner: free, or a page of a file. The catalogue
+//! is derived from that map. The bytes of a catalogue are read by rules that are written apart from the map.
+//!
+//! Beside it stand the plain book, which sees only the number of blocks and the arguments of the calls, and the limit
+//! on the blocks that a removal copies.
+
+#![forbid(unsafe_code)]
+
+mod blocks;
+mod book;
+mod calls;
+mod carry;
+mod moving;
+mod reading;
+mod writing;
+
+pub use blocks::{BlockMap, Owner};
+pub use book::Book;
+pub use calls::{add, breaks, check, format, free, read, removal_copies, remove, Answer};
+pub use carry::carries;
+pub use reading::{sound, Catalogue, Entry, Pair};
+pub use writing::write;
+
+/// The bytes of a block.
+pub const BLOCK: usize = 512;
+/// The bytes of a catalogue.
+pub const CATALOGUE: usize = 4096;
+/// The most blocks of a disk.
+pub const MOST_BLOCKS: usize = 4096;
+/// The most files of a disk.
+pub const MOST_FILES: usize = 64;
+/// The greatest height of a section.
+pub const MOST_HEIGHT: u8 = 12;

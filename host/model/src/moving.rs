@@ -1,0 +1,66 @@
+//! Adding and removing, on the map of blocks.
+
+use crate::blocks::height_of_page;
+use crate::{BlockMap, Owner, MOST_HEIGHT};
+
+impl BlockMap {
+    /// Makes a block range free as one piece of a height.
+    fn set_free(&mut self, first: usize, height: u8) {
+        self.owners[first..first + (1 << height)].fill(Owner::Free { height });
+    }
+
+    /// Gives n blocks to a file: from the highest 1 of n down, one piece for each.
+    ///
+    /// A piece comes from the least height with a free piece that is not below its own. Of that piece the lowest
+    /// blocks are used; splitting has left an upper half at each height in between.
+    pub fn add(&mut self, id: u16, n: u16) {
+        let mut page = 0;
+        for height in (0..=MOST_HEIGHT).rev().filter(|&height| n >> height & 1 == 1) {
+            let (first, taken) = (height..=MOST_HEIGHT)
+                .find_map(|h| self.free_pieces(h).next().map(|first| (first, h)))
+                .expect("n is at most f, so that a piece of this height or above is free");
+            for half in height..taken {
+                self.set_free(first + (1 << half), half);
+            }
+            for owner in &mut self.owners[first..first + (1 << height)] {
+                *owner = Owner::Held { id, page };
+                page += 1;
+            }
+        }
+        self.sizes.insert(id, n);
+    }
+
+    /// Frees the blocks of a file and merges. The result is the list of block copies, from and to, in order.
+    pub fn remove(&mut self, id: u16) -> Vec<(usize, usize)> {
+        let n = self.sizes.remove(&id).expect("the id is in the catalogue");
+        for owner in &mut self.owners {
+            match *owner {
+                Owner::Held { id: held, page } if held == id => {
+                    *owner = Owner::Free { height: height_of_page(n, page) };
+                }
+                _ => {}
+            }
+        }
+        let mut copies = Vec::new();
+        for height in 0..MOST_HEIGHT {
+            while self.merge_lowest_two(height, &mut copies) {}
+        }
+        copies
+    }
+
+    /// Merges once at a height, if it has two free pieces or more.
+    fn merge_lowest_two(&mut self, height: u8, copies: &mut Vec<(usize, usize)>) -> bool {
+        let lowest: Vec<usize> = self.free_pieces(height).take(2).collect();
+        let [lower, upper] = lowest[..] else { return false };
+        let length = 1 << height;
+        // The two halves of a section of height + 1 are buddies.
+        let whole = lower / (2 * length) * (2 * length);
+        let buddy = if lower == whole { whole + length } else { whole };
+        if upper != buddy {
+            copies.extend((0..length).map(|distance| (buddy + distance, upper + distance)));
+            self.owners.copy_within(buddy..buddy + length, upper);
+        }
+        self.set_free(whole, height + 1);
+        true
+    }
+}

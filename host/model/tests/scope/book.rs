@@ -1,0 +1,28 @@
+//! The plain book.
+
+use crate::common::content;
+use model::{Book, BLOCK};
+
+#[test]
+fn the_book_refuses_by_its_lines_alone() {
+    let mut book = Book::new(70);
+    assert_eq!(book.add(0, &[]), Err(5));
+    assert_eq!(book.add(1, &content(1, 3)), Ok(3));
+    assert_eq!([book.add(1, &[]), book.add(2, &[]), book.add(2, &[0; 511])], [Err(7), Err(8), Err(8)]);
+    assert_eq!(book.add(2, &content(2, 68)), Err(11));
+    assert!((2..=64).all(|id| book.add(id, &content(id, 1)) == Ok(1)));
+    assert_eq!(book.add(65, &content(65, 5)), Err(10));
+    assert_eq!((book.free(), book.check(), book.lines().len()), (4, 70, 64));
+}
+
+#[test]
+fn the_book_reads_and_strikes() {
+    let mut book = Book::new(5);
+    assert_eq!(book.add(7, &content(7, 3)), Ok(3));
+    assert_eq!([book.read(0, 0, 0), book.read(8, 0, 0), book.read(7, 9, 0)], [Err(5), Err(6), Err(8)]);
+    assert_eq!([book.read(7, 2, 2 * BLOCK), book.read(7, u64::MAX, BLOCK)], [Err(9), Err(9)]);
+    assert_eq!(book.read(7, 1, 2 * BLOCK), Ok(&content(7, 3)[BLOCK..]));
+    assert_eq!([book.breaks(0), book.breaks(8), book.breaks(7)], [Err(5), Err(6), Ok(())]);
+    assert_eq!([book.remove(0), book.remove(8), book.remove(7), book.remove(7)], [Err(5), Err(6), Ok(()), Err(6)]);
+    assert_eq!(book, Book::new(5));
+}

@@ -1,0 +1,8 @@
+//! The second implementation and the book against the scope document.
+
+mod book;
+mod cases;
+mod common;
+mod refusals;
+mod soundness;
+mod wrong_turns;

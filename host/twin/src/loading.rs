@@ -1,0 +1,106 @@
+//! A table read from the bytes of a catalogue, if they are sound.
+
+use crate::pieces::Pieces;
+use crate::section::Section;
+use crate::table::{Entry, Table};
+use crate::{CATALOGUE, MOST_BLOCKS, MOST_FILES, VERSION};
+
+/// The most pieces of a table: 13 for each file and for the free blocks.
+const MOST_PIECES: usize = 13 * (MOST_FILES + 1);
+
+/// The bytes that are left, of which fields of 2 bytes are read from the front.
+struct Fields<'a> {
+    rest: &'a [u8],
+}
+
+impl Fields<'_> {
+    fn field(&mut self) -> Option<u32> {
+        let (field, rest) = self.rest.split_first_chunk()?;
+        self.rest = rest;
+        Some(u16::from_be_bytes(*field).into())
+    }
+
+    /// One pair for each 1 of n.
+    fn pairs<const PLACES: usize>(&mut self, n: u32) -> Option<Pieces<PLACES>> {
+        let count = n.count_ones() as usize;
+        let mut pieces = Pieces::NONE;
+        for _ in 0..count {
+            let (first, length) = (self.field()?, self.field()?);
+            pieces.push(Section::of_pair(first, length)?);
+        }
+        Some(pieces)
+    }
+
+    /// A file's entry, if it is one that a sound layout can have, with its n.
+    fn entry(&mut self) -> Option<(Entry, u32)> {
+        let (id, n) = (self.field()?, self.field()?);
+        if id == 0 || n == 0 || n > MOST_BLOCKS as u32 {
+            return None;
+        }
+        let mut pieces = self.pairs(n)?;
+        if pieces.blocks() != n || !pieces.in_order() {
+            return None;
+        }
+        pieces.sort_by_page();
+        Some((Entry { id, pieces }, n))
+    }
+}
+
+/// The table of a catalogue of 4,096 bytes, if it is sound.
+pub fn load(cat: &[u8]) -> Option<Table> {
+    debug_assert_eq!(cat.len(), CATALOGUE);
+    let mut fields = Fields { rest: cat };
+    let (version, blocks, count) = (fields.field()?, fields.field()?, fields.field()?);
+    let in_limits = version == VERSION && (1..=MOST_BLOCKS as u32).contains(&blocks) && count <= MOST_FILES as u32;
+    if !in_limits {
+        return None;
+    }
+    let mut table = Table::of_blocks(blocks);
+    let mut free = blocks;
+    for _ in 0..count {
+        let (entry, n) = fields.entry()?;
+        free = free.checked_sub(n)?;
+        table.push(entry);
+    }
+    table.free = fields.pairs(free)?;
+    let is_sound = table.free.blocks() == free && is_zero(fields.rest) && is_sound(&table);
+    is_sound.then_some(table)
+}
+
+fn is_zero(bytes: &[u8]) -> bool {
+    bytes.iter().all(|&byte| byte == 0)
+}
+
+/// Whether ids rise, the free pieces are in order, all pieces are on the disk, and no two share a block.
+fn is_sound(table: &Table) -> bool {
+    let files = table.files();
+    if !files.windows(2).all(|two| two[0].id < two[1].id) || !table.free.in_order() {
+        return false;
+    }
+    let mut places = [Section::default(); MOST_PIECES];
+    let pieces = gather(table, &mut places);
+    pieces.iter().all(|piece| piece.is_on_disk(table.blocks)) && !any_shared(pieces)
+}
+
+/// All pieces in one list: each file's, then the free ones.
+fn gather<'a>(table: &Table, places: &'a mut [Section; MOST_PIECES]) -> &'a [Section] {
+    let mut count = 0;
+    let lists = table.files().iter().map(|entry| entry.pieces.all()).chain([table.free.all()]);
+    for list in lists {
+        places[count..count + list.len()].copy_from_slice(list);
+        count += list.len();
+    }
+    &places[..count]
+}
+
+/// Whether some two pieces share a block. It ends at the first two that do.
+fn any_shared(pieces: &[Section]) -> bool {
+    for (i, a) in pieces.iter().enumerate() {
+        for b in &pieces[i + 1..] {
+            if a.shares_block(*b) {
+                return true;
+            }
+        }
+    }
+    false
+}

@@ -2,8 +2,11 @@
 
 use crate::command::{Command, COMMANDS};
 
-/// What `evdisk --version` says.
-pub const VERSION: &str = concat!("evdisk ", env!("CARGO_PKG_VERSION"), "\n");
+/// What `evdisk --version` says: also whether the manager below the tool is the proved one.
+pub fn version() -> String {
+    let below = if event_disk::PROVED { "the proved manager" } else { "the plain twin, for a first look: NOT PROVED" };
+    format!("evdisk {}, over {below}\n", env!("CARGO_PKG_VERSION"))
+}
 
 pub const FORMAT: &str = "\
 A new image gets C blocks of 512 bytes, all zero; C is 1 to 4096. An image that is there is only formatted with

@@ -37,7 +37,7 @@ pub fn run(words: &[OsString], out: &mut Vec<u8>) -> Result<(), Failure> {
     };
     match first.to_str() {
         Some("--help" | "-h" | "help") => out.extend_from_slice(help::general().as_bytes()),
-        Some("--version" | "-V") => out.extend_from_slice(help::VERSION.as_bytes()),
+        Some("--version" | "-V") => out.extend_from_slice(help::version().as_bytes()),
         _ => return command::named(first)?.run(rest, out),
     }
     Ok(())

@@ -19,6 +19,12 @@
 //! # Ok::<(), event_disk::Refusal>(())
 //! ```
 
+#[cfg(not(feature = "unproved"))]
+mod archive;
+#[cfg(feature = "unproved")]
+#[path = "unproved.rs"]
+mod archive;
+#[cfg(not(feature = "unproved"))]
 mod exports;
 mod listing;
 mod refusal;
@@ -26,6 +32,8 @@ mod refusal;
 pub use listing::{carries, list, File, Listing, Piece};
 pub use refusal::Refusal;
 
+/// Whether the calls are the proved ones. They are unless the feature `unproved` has put the plain twin in their place.
+pub const PROVED: bool = cfg!(not(feature = "unproved"));
 /// The bytes of a block.
 pub const BLOCK: usize = 512;
 /// The bytes of a catalogue.
@@ -45,54 +53,35 @@ fn answer(number: i64) -> Result<u64, Refusal> {
 
 /// Makes the catalogue that of a disk with no file, and answers the number of its blocks. The disk is not changed.
 pub fn format(cat: &mut [u8], disk: &[u8]) -> Result<u64, Refusal> {
-    // SAFETY: the pointers and lengths are those of slices, and a slice that is written overlaps no other.
-    answer(unsafe { exports::evdisk_format(cat.as_mut_ptr(), cat.len(), disk.as_ptr(), disk.len()) })
+    answer(archive::format(cat, disk))
 }
 
 /// Adds a file with the pages of `content`, 512 bytes each, and answers their number.
 pub fn add(cat: &mut [u8], disk: &mut [u8], id: u16, content: &[u8]) -> Result<u64, Refusal> {
-    // SAFETY: as in `format`.
-    answer(unsafe {
-        exports::evdisk_add(
-            cat.as_mut_ptr(),
-            cat.len(),
-            disk.as_mut_ptr(),
-            disk.len(),
-            id,
-            content.as_ptr(),
-            content.len(),
-        )
-    })
+    answer(archive::add(cat, disk, id, content))
 }
 
 /// Removes a file, joins free space, and answers how many blocks were copied for it.
 pub fn remove(cat: &mut [u8], disk: &mut [u8], id: u16) -> Result<u64, Refusal> {
-    // SAFETY: as in `format`.
-    answer(unsafe { exports::evdisk_remove(cat.as_mut_ptr(), cat.len(), disk.as_mut_ptr(), disk.len(), id) })
+    answer(archive::remove(cat, disk, id))
 }
 
 /// Fills `out` with pages of a file from the page `first` on, and answers how many pages that is. Pages count from 0.
 pub fn read(cat: &[u8], disk: &[u8], id: u16, first: u64, out: &mut [u8]) -> Result<u64, Refusal> {
-    // SAFETY: as in `format`.
-    answer(unsafe {
-        exports::evdisk_read(cat.as_ptr(), cat.len(), disk.as_ptr(), disk.len(), id, first, out.as_mut_ptr(), out.len())
-    })
+    answer(archive::read(cat, disk, id, first, out))
 }
 
 /// In how many pieces a file lies, less one.
 pub fn breaks(cat: &[u8], id: u16) -> Result<u64, Refusal> {
-    // SAFETY: as in `format`.
-    answer(unsafe { exports::evdisk_breaks(cat.as_ptr(), cat.len(), id) })
+    answer(archive::breaks(cat, id))
 }
 
 /// The number of free blocks.
 pub fn free(cat: &[u8]) -> Result<u64, Refusal> {
-    // SAFETY: as in `format`.
-    answer(unsafe { exports::evdisk_free(cat.as_ptr(), cat.len()) })
+    answer(archive::free(cat))
 }
 
 /// The number of blocks, if the catalogue is sound and the disk as long as it says.
 pub fn check(cat: &[u8], disk: &[u8]) -> Result<u64, Refusal> {
-    // SAFETY: as in `format`.
-    answer(unsafe { exports::evdisk_check(cat.as_ptr(), cat.len(), disk.as_ptr(), disk.len()) })
+    answer(archive::check(cat, disk))
 }

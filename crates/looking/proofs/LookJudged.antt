@@ -9,7 +9,8 @@ use Rattle.looking.proofs.LookChecks.{disk-right, disk-wrong, id-found,
 use Rattle.layout.specs.Layout.{File, Layout, blockCount, breaksOf, findFile, found, missing}
 use Rattle.layout.specs.Lists.{done}
 use Rattle.manager.proofs.Judging.{none-applies}
-use Rattle.manager.specs.Conditions.{Reply, answered, condition, fileChecks, firstRefusal, refused, replyUnless, wrongDisk}
+use Rattle.manager.specs.Conditions.{Reply, answered, condition, fileChecks, firstRefusal, refused, replyUnless}
+use Rattle.manager.specs.Conditions.{wrongDisk}
 use Rattle.manager.specs.Outcomes.{breaksFound}
 use Rattle.section.specs.Limits.{blockSize}
 use Rattle.section.specs.declared.Section.{Section}

@@ -12,7 +12,8 @@ use Rattle.layout.specs.Layout.{File, fileBlocks, findFile, found, missing}
 use Rattle.layout.specs.Lists.{done}
 use Rattle.manager.proofs.Contents.{paged-length}
 use Rattle.manager.proofs.Judging.{none-applies, passes, refuses-by}
-use Rattle.manager.specs.Conditions.{Condition, Judgement, Outcome, Reply, allowed, answered, beyond, condition, firstRefusal, readChecks, refusal, refused, unlessRefused, unpaged, wrongDisk}
+use Rattle.manager.specs.Conditions.{Condition, Judgement, Outcome, Reply, allowed, answered, beyond, condition}
+use Rattle.manager.specs.Conditions.{firstRefusal, readChecks, refusal, refused, unlessRefused, unpaged, wrongDisk}
 use Rattle.manager.specs.Disk.{joinPages, pageCount, pagesOn}
 use Rattle.manager.specs.Outcomes.{readFound}
 use Rattle.section.specs.Limits.{blockSize}

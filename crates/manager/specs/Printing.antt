@@ -59,7 +59,8 @@ pairLines (s ∷ l) = pairLine s ++ pairLines l
 -- a file line: id and n; then its pairs by first block
 unfoldable pub fileLines : File → List ℕ
 fileLines f =
-    fileWord ++ (space ++ (decimal (f .id) ++ (space ++ (blocksWord ++ (space ++ (decimal (fileBlocks f) ++ lineEnd))))))
+    fileWord
+    ++ (space ++ (decimal (f .id) ++ (space ++ (blocksWord ++ (space ++ (decimal (fileBlocks f) ++ lineEnd))))))
     ++ pairLines (sortBy byFirst (f .pieces))
 
 unfoldable pub allFileLines : List File → List ℕ
@@ -69,7 +70,8 @@ allFileLines (f ∷ l) = fileLines f ++ allFileLines l
 -- the first line: C and f
 unfoldable pub firstLine : Layout → List ℕ
 firstLine l =
-    blocksWord ++ (space ++ (decimal (l .blocks) ++ (space ++ (freeWord ++ (space ++ (decimal (freeBlocks l) ++ lineEnd))))))
+    blocksWord
+    ++ (space ++ (decimal (l .blocks) ++ (space ++ (freeWord ++ (space ++ (decimal (freeBlocks l) ++ lineEnd))))))
 
 -- the whole text of a layout; the line "free" always stands
 unfoldable pub layoutText : Layout → List ℕ
@@ -86,4 +88,7 @@ readingText unsound = refusalText 3
 -- the output for an input
 unfoldable pub printed : Version → List ℕ → List ℕ
 printed v cat =
-    elim (eqb (length cat) (v .bytes)) as (λ _. List ℕ) [ true ↦ readingText (readCatalogue v cat) | false ↦ refusalText 1 ]
+    elim (eqb (length cat) (v .bytes)) as (λ _. List ℕ) [
+      | true ↦ readingText (readCatalogue v cat)
+      | false ↦ refusalText 1
+    ]

@@ -1,13 +1,14 @@
-// Section arithmetic: heights and lengths, sections of a disk and their buddies. The only place with operations on bits.
+// Section arithmetic: heights and lengths, sections of a disk and their buddies. Operations on bits stand here alone.
 //
-// Which numbers are served. `Height::of_length` takes any number and refuses what is no length by its answer. `is_on_disk`
-// takes any first block and any number of blocks. Every other function asks for what a section of a disk gives: a height
-// up to the greatest, which `of_length` answers, and a first block below 2^31, which `is_on_disk` gives.
+// Which numbers are served. `Height::of_length` takes any number and refuses what is no length by its answer.
+// `is_on_disk` takes any first block and any number of blocks. Every other function asks for what a section of a disk
+// gives: a height up to the greatest, which `of_length` answers, and a first block below 2^31, which `is_on_disk` gives.
 ghost use mathlib.Core.Path.{_≡_};
 ghost use Prim.Native.Nat.{ℕ, _≤_};
 ghost use Rattle.section.specs.Limits.{blockSize, greatestDisk, catalogueSize, greatestHeight, mostFiles};
 ghost use Rattle.section.specs.Heights.{NoHigher, IsLength, heightOf};
-ghost use Rattle.section.specs.Sections.{Addressable, endOf, buddyOf, parentOf, isAligned, isOnDisk, hasBuddy, sharesBlock, isInside, movedInto};
+ghost use Rattle.section.specs.Sections.{Addressable, endOf, buddyOf, parentOf, isAligned, isOnDisk, hasBuddy};
+ghost use Rattle.section.specs.Sections.{sharesBlock, isInside, movedInto};
 
 // The height of a section: its length is 2 to the height.
 pub struct Height {

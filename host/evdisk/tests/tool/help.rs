@@ -17,7 +17,8 @@ fn the_help_names_every_command_and_every_status() {
     }
     assert!(help.lines().all(|line| line.chars().count() <= 120));
     assert_eq!(scratch.does("-h"), help);
-    assert_eq!(scratch.does("--version"), concat!("evdisk ", env!("CARGO_PKG_VERSION"), "\n"));
+    let version = concat!("evdisk ", env!("CARGO_PKG_VERSION"), ", over the proved manager\n");
+    assert_eq!(scratch.does("--version"), version);
 }
 
 #[test]

@@ -23,8 +23,10 @@ returns c =
     let same = ap (λ (x : Height). x .value) (pre .1 .1 .1 .0) in
     let multiple = rw same at (up .0) in
     let end = rw same at (up .1) in
-    let fits = buddy-of-lower h (a .lower .first) (a .upper .first) (a .blocks) (low .0) multiple (pre .1 .1 .1 .1) end in
-    (c .buddy .ensures, ap (isOnDisk (a .blocks)) (c .buddy .ensures) ∙ has-buddy-iff (a .blocks) (a .lower) (low .0) .1 fits)
+    let first = a .lower .first in
+    let fits = buddy-of-lower h first (a .upper .first) (a .blocks) (low .0) multiple (pre .1 .1 .1 .1) end in
+    let there = has-buddy-iff (a .blocks) (a .lower) (low .0) .1 fits in
+    (c .buddy .ensures, ap (isOnDisk (a .blocks)) (c .buddy .ensures) ∙ there)
 
 pub lower-buddy-spec : {M : Type 1} → statement M
 lower-buddy-spec = tie.close (tie.spec buddy-requires returns)

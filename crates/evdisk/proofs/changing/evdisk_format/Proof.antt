@@ -1,4 +1,4 @@
--- `evdisk::changing::evdisk_format` meets its contract: the outcome of the call, its answer as a number. Assumes nothing.
+-- `evdisk::changing::evdisk_format` meets its contract: the call's outcome, its answer a number. Assumes nothing.
 use mathlib.Core.Path.{_∙_, ap}
 use borrow.Author.Needs.{needs}
 use Rattle.evdisk.specs.Codes.{codeOf}

@@ -29,7 +29,8 @@ returns c =
     let disk = a .args .disk .now in
     let shut = o .«open» .ensures .shut (not-true _ (c .if1 .taken)) in
     let e = add-refused version1 cat (shut .number) (shut .first) (a .args .id) (a .args .content .now) disk in
-    let s = shut-out cat disk [] (o .«open» .result .refusal) shut (addOutcome version1 (a .args .id) (a .args .content .now) cat disk) e in
+    let full = addOutcome version1 (a .args .id) (a .args .content .now) cat disk in
+    let s = shut-out cat disk [] (o .«open» .result .refusal) shut full e in
     (s .0, (s .1, s .2))
 
 add-in-requires : tie.Need-add-in-requires
@@ -60,7 +61,8 @@ returns-2 c =
     let disk = a .args .disk .now in
     let entered = o .«open» .ensures .entered (not-false _ (r .before .before .before .if1 .left)) in
     let l = layoutOf (o .«open» .result .table) in
-    let on = add-on-read version1 cat l (entered .bytes) (entered .reading) (a .args .id) (a .args .content .now) disk in
+    let read = add-on-read version1 cat l (entered .bytes) (entered .reading) in
+    let on = read (a .args .id) (a .args .content .now) disk in
     let past : List ℕ → Outcome = λ z. addOn l (a .args .id) (a .args .content .now) z disk in
     let full = addOutcome version1 (a .args .id) (a .args .content .now) cat disk in
     let q = r .add-in .result in

@@ -19,7 +19,9 @@ returns c =
     shut .reply ∙ sym (breaks-refused version1 (a .cat .now) (shut .number) (shut .first) (a .id))
 
 breaks-in-requires : tie.Need-breaks-in-requires
-breaks-in-requires c κs = c .before .before .before .«open» .ensures .entered (not-false _ (c .before .if1 .left)) .opened
+breaks-in-requires c κs =
+    let o = c .before .before .before in
+    o .«open» .ensures .entered (not-false _ (c .before .if1 .left)) .opened
 
 returns-2 : tie.Need-returns-2
 returns-2 c =

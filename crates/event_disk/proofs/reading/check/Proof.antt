@@ -19,7 +19,9 @@ returns c =
     shut .reply ∙ sym (check-refused version1 (a .cat .now) (shut .number) (shut .first) (a .disk .now))
 
 check-in-requires : tie.Need-check-in-requires
-check-in-requires c κs = c .before .before .before .«open» .ensures .entered (not-false _ (c .before .if1 .left)) .opened
+check-in-requires c κs =
+    let o = c .before .before .before in
+    o .«open» .ensures .entered (not-false _ (c .before .if1 .left)) .opened
 
 returns-2 : tie.Need-returns-2
 returns-2 c =
@@ -27,7 +29,8 @@ returns-2 c =
     let a = o .before .before .before .args in
     let entered = o .«open» .ensures .entered (not-false _ (c .before .before .if1 .left)) in
     let l = layoutOf (o .«open» .result .table) in
-    c .check-in .ensures (a .disk .now) refl ∙ sym (check-on-read version1 (a .cat .now) l (entered .bytes) (entered .reading) (a .disk .now))
+    let read = check-on-read version1 (a .cat .now) l (entered .bytes) (entered .reading) in
+    c .check-in .ensures (a .disk .now) refl ∙ sym (read (a .disk .now))
 
 pub check-spec : {M : Type 1} → statement M
 check-spec = tie.close (tie.spec open-requires returns check-in-requires returns-2)

@@ -28,7 +28,8 @@ returns-2 c =
     let a = o .before .before .args in
     let entered = o .«open» .ensures .entered (not-false _ (c .before .before .if1 .left)) in
     let l = layoutOf (o .«open» .result .table) in
-    ap answered (c .free-in .ensures .equal) ∙ sym (free-on-read version1 (a .cat .now) l (entered .bytes) (entered .reading))
+    let read = free-on-read version1 (a .cat .now) l (entered .bytes) (entered .reading) in
+    ap answered (c .free-in .ensures .equal) ∙ sym read
 
 pub free-spec : {M : Type 1} → statement M
 free-spec = tie.close (tie.spec open-requires returns free-in-requires returns-2)

@@ -34,3 +34,4 @@ pub mod LoopMerges
 pub mod LoopTurns
 pub mod PageOrder
 pub mod LayoutCases
+pub mod RemovedRoom

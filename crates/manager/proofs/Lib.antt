@@ -8,6 +8,7 @@ pub mod OnRead
 pub mod OnSound
 pub mod AddFromSound
 pub mod RemoveFromSound
+pub mod AddAfterRemoval
 pub mod Standing
 pub mod Steps
 pub mod Agreement

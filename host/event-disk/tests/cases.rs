@@ -1,0 +1,131 @@
+//! Cases 1 to 11 of the scope document by the exported calls: the rows of the table that the crate `case_table` proves of
+//! the definitions, as catalogue bytes, answers and blocks.
+
+use event_disk::{Refusal, BLOCK, CATALOGUE};
+
+type Pairs = &'static [(u16, u16)];
+type Files = &'static [(u16, u16, Pairs)];
+
+/// The bytes of a catalogue, field by field.
+fn bytes(blocks: u16, files: Files, free: Pairs) -> Vec<u8> {
+    let pair = |&(first, length): &(u16, u16)| [first, length];
+    let mut fields = vec![1, blocks, files.len() as u16];
+    for (id, n, pairs) in files {
+        fields.extend([*id, *n]);
+        fields.extend(pairs.iter().flat_map(pair));
+    }
+    fields.extend(free.iter().flat_map(pair));
+    let mut bytes: Vec<u8> = fields.iter().flat_map(|field| field.to_be_bytes()).collect();
+    bytes.resize(CATALOGUE, 0);
+    bytes
+}
+
+/// The block that holds a page of a file.
+fn page(id: u16, number: usize) -> Vec<u8> {
+    vec![(16 * id as usize + number) as u8; BLOCK]
+}
+
+struct Station {
+    cat: Vec<u8>,
+    disk: Vec<u8>,
+}
+
+impl Station {
+    fn fresh(blocks: u16) -> Station {
+        let mut station = Station { cat: vec![7; CATALOGUE], disk: vec![255; BLOCK * usize::from(blocks)] };
+        assert_eq!(event_disk::format(&mut station.cat, &station.disk), Ok(u64::from(blocks)));
+        station
+    }
+
+    fn add(&mut self, id: u16, pages: usize) -> Result<u64, Refusal> {
+        let content: Vec<u8> = (0..pages).flat_map(|number| page(id, number)).collect();
+        event_disk::add(&mut self.cat, &mut self.disk, id, &content)
+    }
+
+    fn remove(&mut self, id: u16) -> Result<u64, Refusal> {
+        event_disk::remove(&mut self.cat, &mut self.disk, id)
+    }
+
+    /// The catalogue is this one, and each of these blocks holds this page of this file.
+    fn is(&self, blocks: u16, files: Files, free: Pairs, pages: &[(usize, u16, usize)]) {
+        assert_eq!(self.cat, bytes(blocks, files, free));
+        for &(block, id, number) in pages {
+            assert_eq!(self.disk[block * BLOCK..][..BLOCK], page(id, number), "block {block}");
+        }
+        for &(id, n, _) in files {
+            let mut out = vec![0; BLOCK * usize::from(n)];
+            assert_eq!(event_disk::read(&self.cat, &self.disk, id, 0, &mut out), Ok(u64::from(n)));
+            assert!(out.chunks(BLOCK).enumerate().all(|(number, bytes)| bytes == page(id, number)), "file {id}");
+        }
+    }
+}
+
+#[test]
+fn cases_1_to_3() {
+    Station::fresh(1).is(1, &[], &[(0, 1)], &[]);
+    Station::fresh(5).is(5, &[], &[(0, 4), (4, 1)], &[]);
+    Station::fresh(261).is(261, &[], &[(0, 256), (256, 4), (260, 1)], &[]);
+}
+
+/// The disk of case 6.
+fn case_6() -> Station {
+    let mut s = Station::fresh(16);
+    assert_eq!(s.add(5, 3), Ok(3));
+    s.is(16, &[(5, 3, &[(0, 2), (2, 1)])], &[(3, 1), (4, 4), (8, 8)], &[(0, 5, 0), (1, 5, 1), (2, 5, 2)]);
+    assert_eq!(s.add(9, 1), Ok(1));
+    s.is(16, &[(5, 3, &[(0, 2), (2, 1)]), (9, 1, &[(3, 1)])], &[(4, 4), (8, 8)], &[(3, 9, 0)]);
+    assert_eq!(s.add(2, 2), Ok(2));
+    const FILES: Files = &[(2, 2, &[(4, 2)]), (5, 3, &[(0, 2), (2, 1)]), (9, 1, &[(3, 1)])];
+    s.is(16, FILES, &[(6, 2), (8, 8)], &[(4, 2, 0), (5, 2, 1)]);
+    s
+}
+
+#[test]
+fn cases_4_to_7() {
+    let mut s = case_6();
+    assert_eq!(s.remove(5), Ok(2));
+    const FILES: Files = &[(2, 2, &[(4, 2)]), (9, 1, &[(7, 1)])];
+    s.is(16, FILES, &[(0, 4), (6, 1), (8, 8)], &[(2, 5, 2), (3, 9, 0), (6, 5, 2), (7, 9, 0)]);
+}
+
+#[test]
+fn case_8() {
+    let mut s = case_6();
+    let before = (s.cat.clone(), s.disk.clone());
+    assert_eq!(s.add(7, 11), Err(Refusal::NoSpace));
+    assert_eq!((&s.cat, &s.disk), (&before.0, &before.1));
+    assert_eq!(s.add(7, 10), Ok(10));
+    const FILES: Files = &[(2, 2, &[(4, 2)]), (5, 3, &[(0, 2), (2, 1)]), (7, 10, &[(6, 2), (8, 8)]), (9, 1, &[(3, 1)])];
+    s.is(16, FILES, &[], &[(8, 7, 0), (15, 7, 7), (6, 7, 8), (7, 7, 9)]);
+}
+
+#[test]
+fn case_9() {
+    let mut s = Station::fresh(2);
+    assert_eq!((s.add(1, 1), s.remove(1)), (Ok(1), Ok(0)));
+    s.is(2, &[], &[(0, 2)], &[]);
+}
+
+#[test]
+fn case_10() {
+    let mut s = Station::fresh(5);
+    assert_eq!((s.add(1, 1), s.add(2, 1)), (Ok(1), Ok(1)));
+    s.is(5, &[(1, 1, &[(4, 1)]), (2, 1, &[(0, 1)])], &[(1, 1), (2, 2)], &[(4, 1, 0), (0, 2, 0)]);
+    assert_eq!(s.remove(1), Ok(1));
+    s.is(5, &[(2, 1, &[(4, 1)])], &[(0, 4)], &[(4, 2, 0), (0, 2, 0)]);
+}
+
+#[test]
+fn case_11() {
+    const BEFORE: Files = &[(1, 1, &[(13, 1)]), (2, 7, &[(0, 4), (4, 2), (6, 1)]), (3, 5, &[(8, 4), (12, 1)])];
+    let mut s = Station { cat: bytes(16, BEFORE, &[(7, 1), (14, 2)]), disk: vec![255; 16 * BLOCK] };
+    let lie = [(13, 1, 0), (0, 2, 0), (1, 2, 1), (2, 2, 2), (3, 2, 3), (4, 2, 4), (5, 2, 5), (6, 2, 6)];
+    let more = [(8, 3, 0), (9, 3, 1), (10, 3, 2), (11, 3, 3), (12, 3, 4)];
+    for (block, id, number) in lie.into_iter().chain(more) {
+        s.disk[block * BLOCK..][..BLOCK].copy_from_slice(&page(id, number));
+    }
+    s.is(16, BEFORE, &[(7, 1), (14, 2)], &[]);
+    assert_eq!(s.remove(1), Ok(3));
+    const AFTER: Files = &[(2, 7, &[(0, 4), (13, 1), (14, 2)]), (3, 5, &[(8, 4), (12, 1)])];
+    s.is(16, AFTER, &[(4, 4)], &[(14, 2, 4), (15, 2, 5), (13, 2, 6)]);
+}

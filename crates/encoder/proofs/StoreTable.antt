@@ -1,6 +1,6 @@
 -- The bytes of a whole table: the room that a sound one has, and all parts together. Assumes nothing.
 use mathlib.Core.List.{List, _++_}
-use mathlib.Core.Path.{_∙_, _≡_, ap, ap₂, refl, sym}
+use mathlib.Core.Path.{_∙_, _≡_, ap, ap₂, sym}
 use Prim.Native.Nat.{_-_, _≤_, ℕ}
 use native.Mathlib.Omega.{arith}
 use lib.ListN.{length, length-map, replicate, take}
@@ -13,7 +13,7 @@ use Rattle.catalogue.proofs.Roomy.{version1-roomy}
 use Rattle.catalogue.proofs.Size.{used-most}
 use Rattle.catalogue.specs.Encoding.{bigEndian, encode, entriesBytes, headerBytes, pairsBytes, usedBytes}
 use Rattle.catalogue.specs.Version.{version1}
-use Rattle.encoder.specs.Store.{Room, Written}
+use Rattle.encoder.specs.Store.{Room, Written, headerFields}
 use Rattle.encoder.proofs.StoreWritten.{room-left, room-right, written-more}
 
 pub files-count : (t : Table) → Sized t → length (t .files) ≡ 64 → t .count ≡ length (filesOf t)
@@ -24,39 +24,26 @@ files-count t sized exact =
 
 -- ---- the header
 
-module _ (t : Table) (k : ℕ) (count : k ≡ length (filesOf t)) where
-  header-parts : headerBytes version1 (layoutOf t)
-      ≡ bigEndian 2 1 ++ (bigEndian 2 (t .blocks) ++ bigEndian 2 k)
-  unfolding headerBytes layoutOf
-  header-parts = rw count
+module _ (n m : ℕ) (cat : List ℕ) (room : Room cat 0 (headerFields n m)) where
+  pub version-room : Room cat 0 (bigEndian 2 1)
+  version-room = room-left cat (bigEndian 2 1) (bigEndian 2 n ++ bigEndian 2 m) 0 room
 
-  module _ (cat : List ℕ) (room : Room cat 0 (headerBytes version1 (layoutOf t))) where
-    parts-room : Room cat 0 (bigEndian 2 1 ++ (bigEndian 2 (t .blocks) ++ bigEndian 2 k))
-    parts-room = rw (← header-parts) room
+  module _ (c₁ : List ℕ) (r₁ : ℕ) (w₁ : Written cat 0 (bigEndian 2 1) c₁ r₁) where
+    rest-room : Room c₁ r₁ (bigEndian 2 n ++ bigEndian 2 m)
+    rest-room = room-right (bigEndian 2 1) (bigEndian 2 n ++ bigEndian 2 m) w₁ room
 
-    pub version-room : Room cat 0 (bigEndian 2 1)
-    version-room = room-left cat (bigEndian 2 1) (bigEndian 2 (t .blocks) ++ bigEndian 2 k) 0 parts-room
+    pub blocks-room : Room c₁ r₁ (bigEndian 2 n)
+    blocks-room = room-left c₁ (bigEndian 2 n) (bigEndian 2 m) r₁ rest-room
 
-    module _ (c₁ : List ℕ) (r₁ : ℕ) (w₁ : Written cat 0 (bigEndian 2 1) c₁ r₁) where
-      rest-room : Room c₁ r₁ (bigEndian 2 (t .blocks) ++ bigEndian 2 k)
-      rest-room = room-right (bigEndian 2 1) (bigEndian 2 (t .blocks) ++ bigEndian 2 k) w₁ parts-room
-
-      pub blocks-room : Room c₁ r₁ (bigEndian 2 (t .blocks))
-      blocks-room = room-left c₁ (bigEndian 2 (t .blocks)) (bigEndian 2 k) r₁ rest-room
-
-      module _ (c₂ : List ℕ) (r₂ : ℕ) (w₂ : Written c₁ r₁ (bigEndian 2 (t .blocks)) c₂ r₂) where
-        pub count-room : Room c₂ r₂ (bigEndian 2 k)
-        count-room = room-right (bigEndian 2 (t .blocks)) (bigEndian 2 k) w₂ rest-room
-
-        pub header-written : (c₃ : List ℕ) (r₃ : ℕ) → Written c₂ r₂ (bigEndian 2 k) c₃ r₃
-            → Written cat 0 (headerBytes version1 (layoutOf t)) c₃ r₃
-        header-written c₃ r₃ w₃ = rw header-parts (written-more w₁ (written-more w₂ w₃))
+    pub count-room : (c₂ : List ℕ) (r₂ : ℕ) → Written c₁ r₁ (bigEndian 2 n) c₂ r₂ → Room c₂ r₂ (bigEndian 2 m)
+    count-room c₂ r₂ w₂ = room-right (bigEndian 2 n) (bigEndian 2 m) w₂ rest-room
 
 -- ---- all parts
 
-module _ (t : Table) (sound : Sound 13 (layoutOf t)) (cat : List ℕ) (full : length cat ≡ catalogueSize) where
+module _ (t : Table) (count : t .count ≡ length (filesOf t)) (sound : Sound 13 (layoutOf t)) (cat : List ℕ)
+    (full : length cat ≡ catalogueSize) where
   abbrev header : List ℕ
-  header = headerBytes version1 (layoutOf t)
+  header = headerFields (t .blocks) (t .count)
 
   abbrev files : List ℕ
   files = entriesBytes 2 (filesOf t)
@@ -65,8 +52,8 @@ module _ (t : Table) (sound : Sound 13 (layoutOf t)) (cat : List ℕ) (full : le
   free = pairsBytes 2 (freeOf (t .free))
 
   used-parts : usedBytes version1 (layoutOf t) ≡ header ++ (files ++ free)
-  unfolding usedBytes layoutOf
-  used-parts = refl
+  unfolding usedBytes headerBytes layoutOf
+  used-parts = sym (ap (λ m. headerFields (t .blocks) m ++ (files ++ free)) count)
 
   used-room : Room cat 0 (header ++ (files ++ free))
   used-room = rw (← used-parts) (omega (arith, used-most version1 version1-roomy (layoutOf t) sound))

@@ -3,6 +3,7 @@ use mathlib.Core.List.{List, _++_}
 use mathlib.Core.Path.{_≡_}
 use Prim.Native.Nat.{_+_, _≤_, ℕ}
 use lib.ListN.{length, take}
+use Rattle.catalogue.specs.Encoding.{bigEndian}
 
 -- the bytes bs have room from at on
 abbrev pub Room : List ℕ → ℕ → List ℕ → Type 0
@@ -13,3 +14,7 @@ pub record Written (before : List ℕ) (at : ℕ) (bs after : List ℕ) (r : ℕ
   pub next : r ≡ at + length bs
   pub front : take r after ≡ take at before ++ bs
   pub exact : length after ≡ length before
+
+-- version 1, n blocks and m files
+abbrev pub headerFields : ℕ → ℕ → List ℕ
+headerFields n m = bigEndian 2 1 ++ (bigEndian 2 n ++ bigEndian 2 m)

@@ -12,11 +12,11 @@ ghost use Rattle.section.specs.Heights.{NoHigher};
 ghost use Rattle.section.specs.Limits.{catalogueSize};
 ghost use Rattle.layout.specs.Lists.{Each};
 ghost use Rattle.layout.specs.Sound.{Sound};
-ghost use Rattle.table.specs.Tables.{Sized, fileOf, filesOf, freeOf, freePlaces, layoutOf};
-ghost use Rattle.catalogue.specs.Encoding.{bigEndian, encode, entriesBytes, entryBytes, headerBytes, pairBytes, pairsBytes};
+ghost use Rattle.table.specs.Tables.{Sized, fileOf, freeOf, freePlaces, layoutOf};
+ghost use Rattle.catalogue.specs.Encoding.{bigEndian, encode, entryBytes, pairBytes, pairsBytes};
 ghost use Rattle.catalogue.specs.Version.{version1};
-ghost use Rattle.pieces.specs.Pieces.{Low, LowEntry, LowFiles};
-ghost use Rattle.encoder.specs.Store.{Room, Written};
+ghost use Rattle.pieces.specs.Pieces.{Low, LowEntry};
+ghost use Rattle.encoder.specs.Store.{Room, Written, headerFields};
 
 // Writes a number in two bytes, the high one first.
 fn write_field(cat: &mut [u8], at: usize, value: u32) -> usize
@@ -70,33 +70,15 @@ fn write_entry(cat: &mut [u8], at: usize, e: Entry) -> usize
     write_pairs(cat, after_blocks, pieces::sorted(e))
 }
 
-// Writes the file entries.
-fn write_entries(cat: &mut [u8], at: usize, t: Table) -> usize
-    requires { ⌜ LowFiles t ⌝ }
-    requires { ⌜ Room (now cat) at (entriesBytes 2 (filesOf t)) ⌝ }
-    ensures { λ r. ⌜ Written (now (cat .entry)) at (entriesBytes 2 (filesOf t)) (now (cat .exit)) r ⌝ }
-{
-    let count = t.count;
-    let mut next = at;
-    let mut i: usize = 0;
-    while i < count {
-        let e = t.files[i];
-        next = write_entry(cat, next, e);
-        i += 1;
-    }
-    next
-}
-
 // Writes version, number of blocks and number of files.
-fn write_header(cat: &mut [u8], t: Table) -> usize
-    requires { ⌜ Sized t ⌝ }
-    requires { ⌜ Room (now cat) 0 (headerBytes version1 (layoutOf t)) ⌝ }
-    ensures { λ r. ⌜ Written (now (cat .entry)) 0 (headerBytes version1 (layoutOf t)) (now (cat .exit)) r ⌝ }
+fn write_header(cat: &mut [u8], blocks: u32, count: u32) -> usize
+    requires { ⌜ Room (now cat) 0 (headerFields blocks count) ⌝ }
+    ensures { λ r. ⌜ Written (now (cat .entry)) 0 (headerFields blocks count) (now (cat .exit)) r ⌝ }
 {
     let version: u32 = 1;
     let after_version = write_field(cat, 0, version);
-    let after_blocks = write_field(cat, after_version, t.blocks);
-    write_field(cat, after_blocks, t.count as u32)
+    let after_blocks = write_field(cat, after_version, blocks);
+    write_field(cat, after_blocks, count)
 }
 
 // Writes zero bytes to the end.
@@ -118,8 +100,14 @@ pub fn store(cat: &mut [u8], t: Table)
     requires { ⌜ Sound 13 (layoutOf t) ⌝ }
     ensures { λ _. ⌜ now (cat .exit) ≡ encode version1 (layoutOf t) ⌝ }
 {
-    let after_header = write_header(cat, t);
-    let after_files = write_entries(cat, after_header, t);
-    let end = write_pairs(cat, after_files, t.free);
+    let count = t.count;
+    let mut next = write_header(cat, t.blocks, count as u32);
+    let mut i: usize = 0;
+    while i < count {
+        let e = t.files[i];
+        next = write_entry(cat, next, e);
+        i += 1;
+    }
+    let end = write_pairs(cat, next, t.free);
     clear(cat, end);
 }

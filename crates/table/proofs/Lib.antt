@@ -1,6 +1,7 @@
 -- Laws of the code's lists, and the proofs of the functions.
 pub mod Arrays
 pub mod Draws
+pub mod Fewer
 pub mod PieceTaken
 pub mod PiecesLaid
 pub mod SoundStock

@@ -1,12 +1,17 @@
 -- Moving the pieces of a file: those that count are moved, the places past them are kept. Definitions only.
+use mathlib.Core.Bool.{Bool}
 use mathlib.Core.List.{List, [], _∷_}
 use Prim.Native.Nat.{suc, zero, ℕ}
 use lib.ListN.{take}
 use Rattle.layout.specs.Lists.{Each}
-use Rattle.section.specs.Sections.{Addressable, movedInto}
+use Rattle.section.specs.Sections.{Addressable, isInside, movedInto}
 use Rattle.section.specs.declared.Section.{Section}
 use Rattle.table.specs.Tables.{InPlaces, piecesIn}
 use Rattle.table.specs.declared.Entry.{Entry}
+
+-- the section lies inside b
+abbrev pub liesIn : Section → Section → Bool
+liesIn b s = isInside s b
 
 -- the first n items mapped, the others kept
 unfoldable pub mapFirst : {A : Type 0} → (A → A) → ℕ → List A → List A

@@ -2,12 +2,33 @@
 ghost use mathlib.Core.Path.{_≡_};
 ghost use Prim.Native.Nat.{ℕ, _≤_};
 ghost use Rattle.section.specs.Limits.{mostFiles};
+ghost use Rattle.section.specs.Sections.{Addressable};
+ghost use Rattle.table.specs.Places.{IsPlace, firstPlace};
 ghost use Rattle.table.specs.Tables.{InPlaces, piecesIn};
-ghost use Rattle.table.specs.Moves.{CanMove, CanMoveFiles, mapFirst, movedEntry};
+ghost use Rattle.table.specs.Moves.{CanMove, CanMoveFiles, PiecesServed, liesIn, mapFirst, movedEntry};
 use crate::Entry;
 use section::Section;
 
 impl Entry {
+    // How many pieces stand before the first that lies inside `from`.
+    fn place_inside(self, from: Section) -> usize
+        requires { ⌜ InPlaces self ⌝ }
+        requires { ⌜ Addressable from ⌝ }
+        requires { ⌜ PiecesServed self ⌝ }
+        ensures { λ r. ⌜ IsPlace (self .count) (firstPlace (liesIn from) (piecesIn self)) r ⌝ }
+    {
+        let m = self.count;
+        let mut place: usize = 0;
+        while place < m {
+            let s = self.items[place];
+            if s.is_inside(from) {
+                return place;
+            }
+            place += 1;
+        }
+        place
+    }
+
     // The file with its pieces moved.
     pub fn moved(self, from: Section, to: Section) -> Entry
         requires { ⌜ InPlaces self ⌝ }
@@ -30,7 +51,7 @@ impl Entry {
     }
 }
 
-// The first `m` files with their pieces moved.
+// The first `m` files with their pieces moved. A file with no piece inside `from` is as it was.
 pub fn files_moved(files: [Entry; 64], m: usize, from: Section, to: Section) -> [Entry; 64]
     requires { ⌜ m ≤ mostFiles ⌝ }
     requires { ⌜ CanMoveFiles from to m files ⌝ }
@@ -40,7 +61,9 @@ pub fn files_moved(files: [Entry; 64], m: usize, from: Section, to: Section) -> 
     let mut i: usize = 0;
     while i < m {
         let e = t[i];
-        t[i] = e.moved(from, to);
+        if e.place_inside(from) < e.count {
+            t[i] = e.moved(from, to);
+        }
         i += 1;
     }
     t

@@ -2,6 +2,8 @@
 ghost use mathlib.Core.Path.{_≡_};
 ghost use Prim.Native.Nat.{ℕ, suc, _+_, _<_, _≤_};
 ghost use Rattle.section.specs.Limits.{greatestHeight};
+ghost use Rattle.layout.specs.Layout.{ofHeight};
+ghost use Rattle.layout.specs.Lists.{sumOf};
 ghost use Rattle.layout.specs.Removing.{mergePair};
 ghost use Rattle.table.specs.Tables.{freePlaces, freeOf};
 ghost use Rattle.table.specs.Free.{Pairs, lowestPair};
@@ -11,6 +13,25 @@ use section::Height;
 use section::Section;
 
 impl Free {
+    // How many pieces have height `h`.
+    fn of_height(self, h: u32) -> usize
+        requires { ⌜ self .count ≤ freePlaces ⌝ }
+        ensures { λ r. ⌜ r ≡ sumOf (ofHeight h) (freeOf self) ⌝ }
+    {
+        let m = self.count;
+        let mut n: usize = 0;
+        let mut j: usize = 0;
+        while j < m {
+            let s = self.items[j];
+            let height = s.height;
+            if height.value == h {
+                n += 1;
+            }
+            j += 1;
+        }
+        n
+    }
+
     // The two lowest pieces of height `h`, and the others.
     pub fn lowest_two(self, h: u32) -> Pair
         requires { ⌜ self .count ≤ freePlaces ⌝ }
@@ -49,9 +70,11 @@ impl Free {
         };
         let mut h: u32 = 0;
         while h <= Height::GREATEST {
-            let p = self.lowest_two(h);
-            if p.found {
-                return p;
+            if 1 < self.of_height(h) {
+                let p = self.lowest_two(h);
+                if p.found {
+                    return p;
+                }
             }
             h += 1;
         }

@@ -1,70 +1,152 @@
--- `encoder::storing::store` meets its contract: the parts, one after another, and zero bytes. Assumes nothing.
+-- `encoder::storing::store` meets its contract: the header, after `i` turns the first `i` entries, the free pairs, and
+-- zero bytes. Assumes nothing.
+use mathlib.Core.List.{map}
+use mathlib.Core.Path.{_≡_, refl}
+use Prim.Native.Nat.{_-_, _≤_}
+use native.Mathlib.Omega.{arith}
+use lib.ListN.{length, take}
 use borrow.Author.Needs.{needs}
 use Rattle.pieces.proofs.SoundPieces.{files-low, free-low}
-use Rattle.encoder.proofs.StoreTable.{end-room, files-room, free-room, header-room, stored}
+use Rattle.table.proofs.Arrays.{length-of-mapped}
+use Rattle.table.proofs.EachItem.{each-taken}
+use Rattle.table.specs.Tables.{fileOf, filesOf}
+use Rattle.table.specs.declared.Entry.{Entry}
+use Rattle.catalogue.specs.Encoding.{entriesBytes, entryBytes}
+use Rattle.encoder.specs.Store.{Written}
+use Rattle.encoder.proofs.StoreLists.{list-more, list-none, list-room}
+use Rattle.encoder.proofs.StoreTable.{end-room, files-count, files-room, free-room, header-room, stored}
 use Rattle.encoder.proofs.storing.store.Statement.{statement}
 use Rattle.encoder.proofs.storing.store.Tie as tie
 
-write-header-requires : tie.Need-write-header-requires
+abbrev Inv-loop : tie.InvT-loop
+Inv-loop cat₀ t count next₀ i₀ cat next i =
+    (count ≡ t .count) × (i ≤ count) × Written cat₀ next₀ (entriesBytes 2 (map fileOf (take i (t .files)))) cat next
+
+abbrev μ-loop : tie.MeasureT-loop
+μ-loop cat₀ t count next₀ i₀ cat next i = count - i
+
+cast-write-header : tie.Need-cast-write-header Inv-loop μ-loop
+cast-write-header c = search needs
+
+write-header-requires : tie.Need-write-header-requires Inv-loop μ-loop
 write-header-requires c κs =
     let s = c .before .before in
-    (s .pre .1 .0, header-room (s .args .t) (s .pre .1 .1) (s .args .cat .now) (s .pre .0))
+    let t = s .args .t2 in
+    let n : length (t .files) ≡ 64 = search (needs, length-of-mapped) in
+    let k = files-count t (s .pre .1 .0) n in
+    header-room t k (s .pre .1 .1) (s .args .cat .now) (s .pre .0)
 
-write-entries-requires : tie.Need-write-entries-requires
-write-entries-requires c κs =
-    let h = c .before .before .before .write-header in
-    let s = c .before .before .before .before .before .before in
-    let p = s .pre .1 in (
-      files-low (s .args .t) (p .0) (p .1),
-      files-room (s .args .t) (p .1) (s .args .cat .now) (s .pre .0) (h .last .0) (h .result) (h .ensures),
+loop-holds : tie.Need-loop-holds Inv-loop μ-loop
+unfolding entriesBytes
+loop-holds c = (
+  refl,
+  omega arith,
+  list-none (λ (e : Entry). entryBytes 2 (fileOf e)) (λ l. entriesBytes 2 (map fileOf l)) refl (λ a l. refl)
+      (c .before .before .before .before .before .args .t2 .files) (c .before .before .write-header .last .0) (c .before .before .write-header .result),
+)
+
+mul-e : tie.Need-mul-e Inv-loop μ-loop
+mul-e c = search needs
+
+element-copy-out-e : tie.Need-element-copy-out-e Inv-loop μ-loop
+element-copy-out-e c = search needs
+
+write-entry-requires : tie.Need-write-entry-requires Inv-loop μ-loop
+unfolding entriesBytes filesOf
+write-entry-requires c κs =
+    let l = c .before .before .before .loop in
+    let h = c .before .before .before .before .before .before .write-header in
+    let s = c .before .before .before .before .before .before .before .before .before in
+    let t = s .args .t2 in
+    let n : length (t .files) ≡ 64 = search (needs, length-of-mapped) in
+    let k = files-count t (s .pre .1 .0) n in (
+      each-taken (t .files) (t .count) _ _ (omega arith) (files-low t (s .pre .1 .0) (s .pre .1 .1) .each) (omega arith),
+      list-room (λ (e : Entry). entryBytes 2 (fileOf e)) (λ l. entriesBytes 2 (map fileOf l)) refl (λ a l. refl) (t .files) _ (h .last .0) (l .cat) (h .result) (t .count) (l .i) (l .next) (omega arith) (omega arith)
+          (files-room t k (s .pre .1 .1) (s .args .cat .now) (s .pre .0) (h .last .0) (h .result) (h .ensures)) (l .inv .2),
     )
 
-write-pairs-requires : tie.Need-write-pairs-requires
+add-i : tie.Need-add-i Inv-loop μ-loop
+add-i c = search needs
+
+loop-less : tie.Need-loop-less Inv-loop μ-loop
+loop-less c = search needs
+
+loop-again : tie.Need-loop-again Inv-loop μ-loop
+unfolding entriesBytes
+loop-again c =
+    let l = c .before .before .before .before .before .before .loop in
+    let h = c .before .before .before .before .before .before .before .before .before .write-header in
+    let s = c .before .before .before .before .before .before .before .before .before .before .before .before in
+    let t = s .args .t2 in
+    let n : length (t .files) ≡ 64 = search (needs, length-of-mapped) in (
+      refl,
+      omega arith,
+      list-more (λ (e : Entry). entryBytes 2 (fileOf e)) (λ l. entriesBytes 2 (map fileOf l)) refl (λ a l. refl) (t .files) _ (h .last .0) (l .cat) _ (h .result) (l .i) (l .next) _ (omega arith) (l .inv .2)
+          (c .before .before .write-entry .ensures),
+    )
+
+write-pairs-requires : tie.Need-write-pairs-requires Inv-loop μ-loop
+unfolding filesOf
 write-pairs-requires c κs =
-    let e = c .before .before .before .write-entries in
-    let h = c .before .before .before .before .before .before .before .write-header in
-    let s = c .before .before .before .before .before .before .before .before .before .before in
-    let p = s .pre .1 in (
-      p .0 .free,
-      (
-        free-low (s .args .t) (p .0) (p .1),
-        free-room (s .args .t) (p .1) (s .args .cat .now) (s .pre .0) (h .last .0) (h .result) (h .ensures)
-            (e .last .0) (e .result) (e .ensures),
-      ),
+    let l = c .before .before .before .loop in
+    let h = c .before .before .before .before .before .before .write-header in
+    let s = c .before .before .before .before .before .before .before .before .before in
+    let t = s .args .t2 in
+    let n : length (t .files) ≡ 64 = search (needs, length-of-mapped) in
+    let k = files-count t (s .pre .1 .0) n in
+    let q : l .i ≡ t .count = omega arith in
+    let w = rw q at (l .inv .2) in (
+      s .pre .1 .0 .free,
+      (free-low t (s .pre .1 .0) (s .pre .1 .1), free-room t k (s .pre .1 .1) (s .args .cat .now) (s .pre .0) (h .last .0) (h .result) (h .ensures) (l .cat) (l .next) w),
     )
 
-clear-requires : tie.Need-clear-requires
+clear-requires : tie.Need-clear-requires Inv-loop μ-loop
+unfolding filesOf
 clear-requires c κs =
     let f = c .before .before .before .write-pairs in
-    let e = c .before .before .before .before .before .before .before .write-entries in
-    let h =
-    c .before .before .before .before .before .before .before .before .before .before .before .write-header in
-    let s = c .before .before .before .before .before .before .before .before .before .before .before .before
-    .before .before in
-    end-room (s .args .t) (s .pre .1 .1) (s .args .cat .now) (s .pre .0) (h .last .0) (h .result) (h .ensures)
-    (e .last .0) (e .result) (e .ensures) (f .last .0) (f .result) (f .ensures)
+    let l = c .before .before .before .before .before .before .before .loop in
+    let h = c .before .before .before .before .before .before .before .before .before .before .write-header in
+    let s = c .before .before .before .before .before .before .before .before .before .before .before .before .before in
+    let t = s .args .t2 in
+    let n : length (t .files) ≡ 64 = search (needs, length-of-mapped) in
+    let k = files-count t (s .pre .1 .0) n in
+    let q : l .i ≡ t .count = omega arith in
+    let w = rw q at (l .inv .2) in
+    end-room t k (s .pre .1 .1) (s .args .cat .now) (s .pre .0) (h .last .0) (h .result) (h .ensures) (l .cat) (l .next) w (f .last .0) (f .result) (f .ensures)
 
-same-length : tie.Need-same-length
+same-length : tie.Need-same-length Inv-loop μ-loop
 same-length c = search needs
 
-returns : tie.Need-returns
+returns : tie.Need-returns Inv-loop μ-loop
+unfolding filesOf
 returns c =
     let z = c .before .before .clear in
     let f = c .before .before .before .before .before .before .write-pairs in
-    let e = c .before .before .before .before .before .before .before .before .before .before .write-entries in
-    let h = c .before .before .before .before .before .before .before .before .before .before .before .before
-    .before .before .write-header in
-    let s = c .before .before .before .before .before .before .before .before .before .before .before .before
-    .before .before .before .before .before in
-    stored (s .args .t) (s .pre .1 .1) (s .args .cat .now) (s .pre .0) (h .last .0) (h .result) (h .ensures)
-    (e .last .0) (e .result) (e .ensures) (f .last .0) (f .result) (f .ensures) (z .last .0) (z .ensures)
+    let l = c .before .before .before .before .before .before .before .before .before .before .loop in
+    let h = c .before .before .before .before .before .before .before .before .before .before .before .before .before .write-header in
+    let s = c .before .before .before .before .before .before .before .before .before .before .before .before .before .before .before .before in
+    let t = s .args .t2 in
+    let n : length (t .files) ≡ 64 = search (needs, length-of-mapped) in
+    let k = files-count t (s .pre .1 .0) n in
+    let q : l .i ≡ t .count = omega arith in
+    let w = rw q at (l .inv .2) in
+    stored t k (s .pre .1 .1) (s .args .cat .now) (s .pre .0) (h .last .0) (h .result) (h .ensures) (l .cat) (l .next) w (f .last .0) (f .result) (f .ensures) (z .last .0) (z .ensures)
 
 pub store-spec : {M : Type 1} → statement M
 store-spec =
     tie.close
     (tie.spec
+    Inv-loop
+    μ-loop
+    cast-write-header
     write-header-requires
-    write-entries-requires
+    loop-holds
+    mul-e
+    element-copy-out-e
+    write-entry-requires
+    add-i
+    loop-less
+    loop-again
     write-pairs-requires
     clear-requires
     same-length

@@ -1,13 +1,14 @@
 -- `table::files_moved` meets its contract: after i turns the pieces of the first i files have moved. Assumes
 -- nothing.
+use mathlib.Core.Logic.{inl, inr}
 use mathlib.Core.Path.{_∙_, _≡_, ap, subst, sym}
-use Prim.Native.Nat.{_-_, _≤_}
+use Prim.Native.Nat.{_+_, _-_, _≤_}
 use native.Mathlib.Omega.{arith}
 use lib.ListN.{getD, length}
 use borrow.Author.Needs.{needs}
 use Rattle.table.proofs.Arrays.{length-of-mapped}
 use Rattle.table.proofs.EachItem.{each-get, each-taken}
-use Rattle.table.proofs.MapFirst.{mapFirst-at, mapFirst-more, mapFirst-none}
+use Rattle.table.proofs.MapFirst.{file-stays, mapFirst-at, mapFirst-kept, mapFirst-more, mapFirst-none}
 use Rattle.table.specs.Files.{noEntry}
 use Rattle.table.specs.Moves.{PiecesServed, mapFirst, movedEntry}
 use Rattle.table.specs.Tables.{InPlaces}
@@ -31,8 +32,8 @@ mul-e c = search needs
 array-copy-out-e : tie.Need-array-copy-out-e Inv-loop μ-loop
 array-copy-out-e c = search needs
 
-moved-requires : tie.Need-moved-requires Inv-loop μ-loop
-moved-requires c κs =
+place-inside-requires : tie.Need-place-inside-requires Inv-loop μ-loop
+place-inside-requires c κs =
     let a = c .before .before .before in
     let v = c .before .before .loop .inv in
     let i = c .before .before .loop .i in
@@ -40,13 +41,27 @@ moved-requires c κs =
     let e = sym (ap (λ l. getD l i noEntry) (v .3)
     ∙ mapFirst-at (movedEntry (a .args .from) (a .args .to)) (a .args .files) i noEntry) in (
       subst InPlaces e (each-get {P = InPlaces} i noEntry (a .pre .1 .each) (omega arith)),
+      (
+        a .pre .1 .from,
+        subst PiecesServed e
+            (each-taken {P = PiecesServed} (a .args .files) (a .args .m) i noEntry (omega arith) (a .pre .1 .pieces) lt),
+      ),
+    )
+
+moved-requires : tie.Need-moved-requires Inv-loop μ-loop
+moved-requires c κs =
+    let a = c .before .before .before .before .before .before in
+    let v = c .before .before .before .before .before .loop .inv in
+    let i = c .before .before .before .before .before .loop .i in
+    let lt = c .before .before .before .before .loop-test .taken in
+    let e = sym (ap (λ l. getD l i noEntry) (v .3)
+    ∙ mapFirst-at (movedEntry (a .args .from) (a .args .to)) (a .args .files) i noEntry) in (
+      subst InPlaces e (each-get {P = InPlaces} i noEntry (a .pre .1 .each) (omega arith)),
       record {
         from = a .pre .1 .from;
         to = a .pre .1 .to;
-        pieces =
-            subst PiecesServed e
-            (each-taken {P = PiecesServed} (a .args .files) (a .args .m) i noEntry (omega arith)
-            (a .pre .1 .pieces) lt);
+        pieces = subst PiecesServed e
+            (each-taken {P = PiecesServed} (a .args .files) (a .args .m) i noEntry (omega arith) (a .pre .1 .pieces) lt);
       },
     )
 
@@ -64,8 +79,18 @@ loop-less c = search needs
 
 loop-again : tie.Need-loop-again Inv-loop μ-loop
 loop-again c =
-    let v = c .before .before .before .loop .inv in
-    (omega arith, v .1, v .2, mapFirst-more _ _ _ _ noEntry _ (v .3) (c .moved .ensures))
+    let a = c .before .before .before .before .before .before .args in
+    let l = c .before .before .before .before .before .loop in
+    let v = l .inv in
+    let g = movedEntry (a .from) (a .to) in
+    let next = elim (c .if1 .came) as (λ _. c .if1 .t ≡ mapFirst g (l .i + 1) (a .files)) [
+      | inl x ↦ x .2 ∙ mapFirst-more g (a .files) (l .t) (l .i) noEntry _ (v .3) (x .1 .ensures)
+      | inr x ↦ x .1
+          ∙ mapFirst-kept g (a .files) (l .t) (l .i) noEntry (v .3)
+          (file-stays (a .from) (a .to) (getD (l .t) (l .i) noEntry)
+          (omega (arith, c .before .before .place-inside .ensures .place, x .0 .left)))
+    ] in
+    (omega arith, v .1, v .2, next)
 
 returns : tie.Need-returns Inv-loop μ-loop
 returns c =
@@ -82,6 +107,7 @@ files-moved-spec =
     loop-holds
     mul-e
     array-copy-out-e
+    place-inside-requires
     moved-requires
     mul-t
     array-set-from-t

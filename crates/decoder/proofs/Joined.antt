@@ -16,30 +16,15 @@ use Rattle.section.specs.declared.Section.{Section}
 use Rattle.table.specs.Tables.{fileOf, piecesIn}
 use Rattle.table.specs.declared.Entry.{Entry}
 
-pub join-start : (items pieces : List Section) (start : ℕ)
-    → take (start + 0) items ≡ take start items ++ take 0 pieces
-join-start items pieces start = ap (λ k. take k items) same ∙ sym (append-nil (take start items))
-  where
-    same : start + 0 ≡ start
-    same = omega arith
-
-pub join-more : (items old pieces : List Section) (start i : ℕ) → start + i < length items → i < length pieces
-    → take (start + i) items ≡ take start old ++ take i pieces
-    → take (start + (i + 1)) (set items (start + i) (getD pieces i blank)) ≡ take start old ++ take (i + 1) pieces
-join-more items old pieces start i h l e =
-    ap (λ k. take k (set items (start + i) (getD pieces i blank))) same
-    ∙ (pushed items (start + i) (getD pieces i blank) h
+-- the list l, and the first i of some pieces, are the first elements of an array: one more
+pub join-more : (items l pieces : List Section) (at i : ℕ) → at < length items → i < length pieces
+    → take at items ≡ l ++ take i pieces
+    → take (at + 1) (set items at (getD pieces i blank)) ≡ l ++ take (i + 1) pieces
+join-more items l pieces at i h k e =
+    pushed items at (getD pieces i blank) h
     ∙ (ap (λ z. z ++ (getD pieces i blank ∷ [])) e
-    ∙ (append-assoc (take start old) (take i pieces) (getD pieces i blank ∷ [])
-    ∙ ap (λ z. take start old ++ z) (sym (ap (λ k. take k pieces) (add-one i) ∙ take-suc pieces i blank l)))))
-  where
-    same : start + (i + 1) ≡ start + i + 1
-    same = omega arith
-
-pub join-end : (items old pieces : List Section) (start i n : ℕ) → i ≡ n
-    → take (start + i) items ≡ take start old ++ take i pieces
-    → take (start + n) items ≡ take start old ++ take n pieces
-join-end items old pieces start i n e q = rw e at q
+    ∙ (append-assoc l (take i pieces) (getD pieces i blank ∷ [])
+    ∙ ap (λ z. l ++ z) (sym (ap (λ n. take n pieces) (add-one i) ∙ take-suc pieces i blank k))))
 
 pub each-at {ℓ κ} : {A : Type ℓ} {P : A → Type κ} (d : A) {l : List A} → Each P l → (i : ℕ) → i < length l
     → P (getD l i d)

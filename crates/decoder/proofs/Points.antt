@@ -1,11 +1,11 @@
 -- Tests on every element of an array's first places, and on every two of them, by their places. Assumes nothing.
 use mathlib.Core.Bool.{Bool, false, true}
 use mathlib.Core.List.{List, [], _∷_, map}
-use mathlib.Core.Path.{_∙_, _≡_, ap, ap₂, refl, sym}
+use mathlib.Core.Path.{_∙_, _≡_, ap, ap₂, refl, subst, sym}
 use Prim.Native.Nat.{_+_, _<_, _≤_, suc, zero, ℕ}
 use native.Mathlib.Omega.{arith}
-use lib.ListN.{getD, length, length-map, take}
-use lib.Seq.{getD-take, length-take-le}
+use lib.ListN.{getD, length, length-map, set, take}
+use lib.Seq.{getD-set-other, getD-set-same, getD-take, length-take-le}
 use borrow.Author.Count.{below-more}
 use Rattle.catalogue.proofs.Tests.{and-intro}
 use Rattle.catalogue.specs.Reading.{every, pairwise}
@@ -107,6 +107,14 @@ module _ {ℓ} {A : Type ℓ} where
     rows-more i j q fs f =
         below-more (λ a. (b : ℕ) → a < b → b < m → r (getD l a d) (getD l b d) ≡ true) i fs
         (λ b p k. f b (omega arith) p)
+
+-- what holds at every place before i, after a write at i, holds at every place before i + 1
+pub below-set {ℓ} : {A : Type ℓ} (P : ℕ → A → Type 0) (l : List A) (i : ℕ) (a d : A) → i < length l
+    → ((k : ℕ) → k < i → P k (getD l k d)) → P i a → (k : ℕ) → k < i + 1 → P k (getD (set l i a) k d)
+below-set P l i a d h f p =
+    below-more (λ k. P k (getD (set l i a) k d)) i
+    (λ k q. subst (P k) (sym (getD-set-other l i k a d (λ e. omega arith))) (f k q))
+    (subst (P i) (sym (getD-set-same l i a d h)) p)
 
 pub length-of-mapped : {X Y : Type 0} (f : X → Y) (l : List X) (n : ℕ) → length (map f l) ≡ n → length l ≡ n
 length-of-mapped f l n e = sym (length-map l f) ∙ e

@@ -11,7 +11,7 @@ use lib.ListN.{drop, drop-of-length-le, getD, length, take}
 use lib.Pow.{pow-pos}
 use lib.Seq.{drop-cons}
 use borrow.Author.Count.{below-more}
-use borrow.Author.Tests.{eq-eqb, le-leb, le-ltb, lt-leb, lt-ltb, ltb-true, ne-eqb}
+use borrow.Author.Tests.{le-leb, le-ltb, lt-leb, lt-ltb, ltb-true}
 use Rattle.catalogue.specs.Reading.{every, pairwise, soundPiece}
 use Rattle.catalogue.specs.Version.{version1}
 use Rattle.decoder.proofs.EntryRuns.{filesTo}
@@ -36,22 +36,14 @@ module _ (s : List ℕ) (i : ℕ) (h : i < length s) where
   front : drop i s ≡ getD s i 0 ∷ drop (i + 1) s
   front = drop-cons s i 0 h ∙ ap (λ k. getD s i 0 ∷ drop k s) (sym (add-one i))
 
-  pub zero-more : getD s i 0 ≡ 0 → allZero (drop (i + 1) s) ≡ allZero (drop i s)
-  zero-more e =
-      sym
-      (ap allZero front
-      ∙ (zero-cons (getD s i 0) (drop (i + 1) s)
-      ∙ ap (λ t. t && allZero (drop (i + 1) s)) (eq-eqb (getD s i 0) 0 e)))
+  pub zero-more : (z : Bool) → ((z && eqb (getD s i 0) 0) && allZero (drop (i + 1) s)) ≡ (z && allZero (drop i s))
+  zero-more true = sym (ap allZero front ∙ zero-cons (getD s i 0) (drop (i + 1) s))
+  zero-more false = refl
 
-  pub zero-fails : (getD s i 0 ≡ 0 → ⊥) → allZero (drop i s) ≡ false
-  zero-fails n =
-      ap allZero front
-      ∙ (zero-cons (getD s i 0) (drop (i + 1) s)
-      ∙ ap (λ t. t && allZero (drop (i + 1) s)) (ne-eqb (getD s i 0) 0 n))
-
-pub zero-end : (s : List ℕ) (i : ℕ) → length s ≤ i → allZero (drop i s) ≡ true
+pub zero-end : (s : List ℕ) (i : ℕ) → length s ≤ i → (z : Bool) → (z && allZero (drop i s)) ≡ z
 unfolding every
-zero-end s i h = ap allZero (drop-of-length-le s {i = i} h)
+zero-end s i h true = ap allZero (drop-of-length-le s {i = i} h)
+zero-end s i h false = refl
 
 -- ---- sums
 

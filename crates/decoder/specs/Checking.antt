@@ -1,13 +1,14 @@
 -- What the tests on a table that was read promise. Definitions only.
-use mathlib.Core.Path.{_≡_}
 use mathlib.Core.Bool.{Bool, _&&_, not}
-use mathlib.Core.List.{List, _++_}
-use Prim.Native.Nat.{ℕ, _+_, _-_}
+use mathlib.Core.List.{List}
+use mathlib.Core.Path.{_≡_}
+use Prim.Native.Nat.{ℕ, _-_, _<_}
 use lib.Dec.{leb, ltb, eqb}
-use lib.ListN.{take}
+use lib.ListN.{getD, length, take}
 use Rattle.section.specs.declared.Section.{Section}
+use Rattle.section.specs.Heights.{IsLength}
 use Rattle.section.specs.Limits.{greatestDisk}
-use Rattle.section.specs.Sections.{sharesBlock}
+use Rattle.section.specs.Sections.{section, sharesBlock}
 use Rattle.layout.specs.Layout.{File}
 use Rattle.catalogue.specs.Reading.{every, pairwise}
 use Rattle.decoder.specs.declared.Gathered.{Gathered}
@@ -20,10 +21,11 @@ gatheredPlaces = 858
 unfoldable pub piecesOf : Gathered → List Section
 piecesOf g = take (g .count) (g .items)
 
--- r has the pieces l, n of them, more than g
-pub record Joins (g : Gathered) (n : ℕ) (l : List Section) (r : Gathered) : Type 0 where
-  pub count : r .count ≡ g .count + n
-  pub list : piecesOf r ≡ piecesOf g ++ l
+-- l has the lengths of the pieces that were gathered, each at its piece's place
+abbrev pub Lengths : Gathered → List ℕ → Type 0
+Lengths g l =
+    (length l ≡ gatheredPlaces)
+    × ((k : ℕ) → k < g .count → IsLength (getD (g .items) k (section 0 0) .height) (getD l k 0))
 
 -- C and the blocks of the files and of the free pieces agree
 unfoldable pub sumsAgree : ℕ → ℕ → ℕ → Bool

@@ -13,22 +13,23 @@ ghost use Rattle.layout.specs.Lists.{Each};
 ghost use Rattle.table.specs.Tables.{filesOf, layoutOf};
 ghost use Rattle.catalogue.specs.Version.{version1};
 ghost use Rattle.catalogue.specs.Reading.{every, isSound, soundPiece};
-ghost use Rattle.decoder.specs.Checking.{allZero, gatheredPlaces, idsRise, noneShared, piecesOf, sumsAgree};
+ghost use Rattle.decoder.specs.Checking.{Lengths, gatheredPlaces, piecesOf};
+ghost use Rattle.decoder.specs.Checking.{allZero, idsRise, noneShared, sumsAgree};
 ghost use Rattle.decoder.specs.Loading.{Counted, Exact};
 
-// Whether only zero bytes stand from a place on.
+// Whether only zero bytes stand from a place on. The loop does not end at the first other one, so that the compiler can
+// compare many at once.
 pub fn is_zero_from(cat: &[u8], at: usize) -> bool
     requires { ⌜ at ≤ length (now cat) ⌝ }
     ensures { λ r. ⌜ r ≡ allZero (drop at (now (cat .entry))) ⌝ }
 {
+    let mut zero = true;
     let mut i = at;
     while i < cat.len() {
-        if cat[i] != 0 {
-            return false;
-        }
+        zero &= cat[i] == 0;
         i += 1;
     }
-    true
+    zero
 }
 
 // Whether C and the sums of the files' blocks and of the free blocks agree.
@@ -53,11 +54,10 @@ fn ids_rise(table: Table) -> bool
     ensures { λ r. ⌜ r ≡ idsRise (filesOf table) ⌝ }
 {
     let count = table.count;
-    let files = table.files;
     let mut i: usize = 1;
     while i < count {
-        let before = files[i - 1];
-        let entry = files[i];
+        let before = table.files[i - 1];
+        let entry = table.files[i];
         if entry.id <= before.id {
             return false;
         }
@@ -83,10 +83,9 @@ fn all_on_disk(list: Gathered, blocks: u32) -> bool
     ensures { λ r. ⌜ r ≡ every (soundPiece (version1 .heights) blocks) (piecesOf list) ⌝ }
 {
     let count = list.count;
-    let items = list.items;
     let mut i: usize = 0;
     while i < count {
-        let section = items[i];
+        let section = list.items[i];
         if !is_piece(section, blocks) {
             return false;
         }
@@ -95,21 +94,40 @@ fn all_on_disk(list: Gathered, blocks: u32) -> bool
     true
 }
 
+// The length of each piece, for the comparison of every two.
+fn lengths_of(list: Gathered) -> [u32; 858]
+    requires { ⌜ (list .count ≤ gatheredPlaces) × Each Addressable (piecesOf list) ⌝ }
+    ensures { λ r. ⌜ Lengths list r ⌝ }
+{
+    let count = list.count;
+    let mut lengths: [u32; 858] = [0; 858];
+    let mut i: usize = 0;
+    while i < count {
+        let section = list.items[i];
+        let height = section.height;
+        lengths[i] = height.length();
+        i += 1;
+    }
+    lengths
+}
+
 // Whether some two pieces share a block.
 fn any_shared(list: Gathered) -> bool
     requires { ⌜ (list .count ≤ gatheredPlaces) × Each Addressable (piecesOf list) ⌝ }
     ensures { λ r. ⌜ r ≡ not (noneShared (piecesOf list)) ⌝ }
 {
     let count = list.count;
-    let items = list.items;
+    let lengths = lengths_of(list);
     let mut found = false;
     let mut i: usize = 0;
     'pairs: while i < count {
-        let a = items[i];
+        let a = list.items[i];
+        let n = lengths[i];
         let mut j = i + 1;
         while j < count {
-            let b = items[j];
-            if a.shares_block(b) {
+            let b = list.items[j];
+            let m = lengths[j];
+            if a.shares_block(n, b, m) {
                 found = true;
                 break 'pairs;
             }

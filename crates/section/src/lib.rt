@@ -141,13 +141,20 @@ impl Section {
         }
     }
 
-    // Whether the two have a block in common.
-    pub fn shares_block(self, other: Section) -> bool
+    // Whether the two have a block in common: from the first block to the other's last it is less than both lengths
+    // together. A difference below 0 wraps to a great number, so that one comparison tells. The lengths, n and m, are
+    // given, so that who compares many sections finds each length once.
+    pub fn shares_block(self, n: u32, other: Section, m: u32) -> bool
         requires { ⌜ Addressable self ⌝ }
+        requires { ⌜ IsLength (self .height) n ⌝ }
         requires { ⌜ Addressable other ⌝ }
+        requires { ⌜ IsLength (other .height) m ⌝ }
         ensures { λ r. ⌜ r ≡ sharesBlock self other ⌝ }
     {
-        self.first < other.end() && other.first < self.end()
+        let start = self.first + 1;
+        let end = other.first + m;
+        let lengths = n + m;
+        std::num::wrapping_sub_u32(end, start) < lengths - 1
     }
 
     // Whether every block of the section is one of the other's.

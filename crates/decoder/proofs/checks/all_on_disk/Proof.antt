@@ -15,23 +15,23 @@ use Rattle.decoder.proofs.checks.all_on_disk.Statement.{statement}
 use Rattle.decoder.proofs.checks.all_on_disk.Tie as tie
 
 abbrev Inv-loop : tie.InvT-loop
-Inv-loop blocks count items i₀ i =
-    (count ≤ gatheredPlaces) × (length items ≡ gatheredPlaces)
-    × ((k : ℕ) → k < i → soundPiece (version1 .heights) blocks (getD items k blank) ≡ true)
+Inv-loop blocks list count i₀ i =
+    (count ≤ gatheredPlaces) × (length (list .items) ≡ gatheredPlaces)
+    × ((k : ℕ) → k < i → soundPiece (version1 .heights) blocks (getD (list .items) k blank) ≡ true)
 
 abbrev μ-loop : tie.MeasureT-loop
-μ-loop blocks count items i₀ i = count - i
+μ-loop blocks list count i₀ i = count - i
 
 loop-holds : tie.Need-loop-holds Inv-loop μ-loop
 loop-holds c =
-    let e : length (c .before .args .list .items) ≡ gatheredPlaces = search (needs, length-of-mapped) in
-    (c .before .pre, e, λ k h. absurd (omega arith))
+    let e : length (c .args .t1 .items) ≡ gatheredPlaces = search (needs, length-of-mapped) in
+    (c .pre, e, λ k h. absurd (omega arith))
 
 mul-section : tie.Need-mul-section Inv-loop μ-loop
 mul-section c = search needs
 
-array-copy-out-section : tie.Need-array-copy-out-section Inv-loop μ-loop
-array-copy-out-section c = search needs
+element-copy-out-section : tie.Need-element-copy-out-section Inv-loop μ-loop
+element-copy-out-section c = search needs
 
 is-piece-requires : tie.Need-is-piece-requires Inv-loop μ-loop
 is-piece-requires c κs = search needs
@@ -39,9 +39,9 @@ is-piece-requires c κs = search needs
 returns : tie.Need-returns Inv-loop μ-loop
 unfolding piecesOf
 returns c =
-    let a = c .before .before .before .before .before .before .args in
+    let a = c .before .before .before .before .before .args in
     let b = c .before .before .before .before .loop in
-    sym (one-fails (a .list .items) (a .list .count) blank (omega (arith, b .inv .0, b .inv .1))
+    sym (one-fails (a .t1 .items) (a .t1 .count) blank (omega (arith, b .inv .0, b .inv .1))
     (soundPiece (version1 .heights) (a .blocks))
     (b .i) (c .before .before .before .loop-test .taken)
     (sym (c .before .is-piece .ensures) ∙ not-true _ (c .if1 .taken)))
@@ -54,12 +54,12 @@ loop-less c = search needs
 
 loop-again : tie.Need-loop-again Inv-loop μ-loop
 loop-again c =
-    let a = c .before .before .before .before .before .before .args in
+    let a = c .before .before .before .before .before .args in
     let b = c .before .before .before .before .loop in
     let v = b .inv in (
       v .0,
       v .1,
-      below-more (λ k. soundPiece (version1 .heights) (a .blocks) (getD (a .list .items) k blank) ≡ true) (b .i)
+      below-more (λ k. soundPiece (version1 .heights) (a .blocks) (getD (a .t1 .items) k blank) ≡ true) (b .i)
           (v .2)
           (sym (c .before .is-piece .ensures) ∙ not-false _ (c .if1 .left)),
     )
@@ -67,9 +67,9 @@ loop-again c =
 returns-2 : tie.Need-returns-2 Inv-loop μ-loop
 unfolding piecesOf
 returns-2 c =
-    let a = c .before .before .before .args in
+    let a = c .before .before .args in
     let b = c .before .loop in
-    sym (all-hold (a .list .items) (a .list .count) blank (omega (arith, b .inv .0, b .inv .1))
+    sym (all-hold (a .t1 .items) (a .t1 .count) blank (omega (arith, b .inv .0, b .inv .1))
     (soundPiece (version1 .heights) (a .blocks))
     (λ k h. b .inv .2 k (omega (arith, c .loop-test .left))))
 
@@ -81,7 +81,7 @@ all-on-disk-spec =
     μ-loop
     loop-holds
     mul-section
-    array-copy-out-section
+    element-copy-out-section
     is-piece-requires
     returns
     add-i

@@ -15,42 +15,51 @@ use Rattle.decoder.proofs.checks.any_shared.Statement.{statement}
 use Rattle.decoder.proofs.checks.any_shared.Tie as tie
 
 abbrev Inv-loop : tie.InvT-loop
-Inv-loop count items found₀ i a j₀ found j =
-    (found ≡ false) × (count ≤ gatheredPlaces) × (length items ≡ gatheredPlaces)
-    × Each Addressable (take count items)
-    × (i < count) × (i < j) × (j ≤ count) × Rows items count blank apart i × Row items blank apart i j
+Inv-loop list count lengths found₀ i a n j₀ found j =
+    (found ≡ false) × (count ≤ gatheredPlaces) × (length (list .items) ≡ gatheredPlaces)
+    × Each Addressable (take count (list .items))
+    × (i < count) × (i < j) × (j ≤ count) × Rows (list .items) count blank apart i × Row (list .items) blank apart i j
 
 abbrev μ-loop : tie.MeasureT-loop
-μ-loop count items found₀ i a j₀ found j = count - j
+μ-loop list count lengths found₀ i a n j₀ found j = count - j
 
 abbrev Inv-pairs : tie.InvT-pairs
-Inv-pairs count items found₀ i₀ found i =
-    (found ≡ false) × (count ≤ gatheredPlaces) × (length items ≡ gatheredPlaces)
-    × Each Addressable (take count items)
-    × (i ≤ count) × Rows items count blank apart i
+Inv-pairs list count lengths found₀ i₀ found i =
+    (found ≡ false) × (count ≤ gatheredPlaces) × (length (list .items) ≡ gatheredPlaces)
+    × Each Addressable (take count (list .items))
+    × (i ≤ count) × Rows (list .items) count blank apart i
 
 abbrev μ-pairs : tie.MeasureT-pairs
-μ-pairs count items found₀ i₀ found i = count - i
+μ-pairs list count lengths found₀ i₀ found i = count - i
+
+lengths-of-requires : tie.Need-lengths-of-requires Inv-loop μ-loop Inv-pairs μ-pairs
+lengths-of-requires c κs = search needs
 
 pairs-holds : tie.Need-pairs-holds Inv-loop μ-loop Inv-pairs μ-pairs
 unfolding piecesOf
 pairs-holds c =
-    let a = c .before .args .list in
+    let a = c .before .args .t1 in
     let e : length (a .items) ≡ gatheredPlaces = search (needs, length-of-mapped) in
     (refl, c .before .pre .0, e, c .before .pre .1, omega arith, rows-none (a .items) (a .count) blank apart)
 
 mul-a : tie.Need-mul-a Inv-loop μ-loop Inv-pairs μ-pairs
 mul-a c = search needs
 
-array-copy-out-a : tie.Need-array-copy-out-a Inv-loop μ-loop Inv-pairs μ-pairs
-array-copy-out-a c = search needs
+element-copy-out-a : tie.Need-element-copy-out-a Inv-loop μ-loop Inv-pairs μ-pairs
+element-copy-out-a c = search needs
+
+mul-n : tie.Need-mul-n Inv-loop μ-loop Inv-pairs μ-pairs
+mul-n c = search needs
+
+array-read-n : tie.Need-array-read-n Inv-loop μ-loop Inv-pairs μ-pairs
+array-read-n c = search needs
 
 add-j : tie.Need-add-j Inv-loop μ-loop Inv-pairs μ-pairs
 add-j c = search needs
 
 loop-holds : tie.Need-loop-holds Inv-loop μ-loop Inv-pairs μ-pairs
 loop-holds c =
-    let a = c .before .before .before .before .args .list in
+    let a = c .before .before .before .before .args .t1 in
     let v = c .before .before .pairs .inv in (
       v .0,
       v .1,
@@ -66,18 +75,26 @@ loop-holds c =
 mul-b : tie.Need-mul-b Inv-loop μ-loop Inv-pairs μ-pairs
 mul-b c = search needs
 
-array-copy-out-b : tie.Need-array-copy-out-b Inv-loop μ-loop Inv-pairs μ-pairs
-array-copy-out-b c = search needs
+element-copy-out-b : tie.Need-element-copy-out-b Inv-loop μ-loop Inv-pairs μ-pairs
+element-copy-out-b c = search needs
+
+mul-m : tie.Need-mul-m Inv-loop μ-loop Inv-pairs μ-pairs
+mul-m c = search needs
+
+array-read-m : tie.Need-array-read-m Inv-loop μ-loop Inv-pairs μ-pairs
+array-read-m c = search needs
 
 shares-block-requires : tie.Need-shares-block-requires Inv-loop μ-loop Inv-pairs μ-pairs
 shares-block-requires c κs =
-    let a = c .before .before .before .before .before .before .before .args .list in
-    let v = c .before .before .loop .inv in (
-      each-placed blank (a .items) (a .count) (c .before .before .before .before .before .pairs .i)
-          (omega (arith, v .1, v .2)) (v .4) (v .3),
-      each-placed blank (a .items) (a .count) (c .before .before .loop .j) (omega (arith, v .1, v .2))
-          (c .before .loop-test .taken) (v .3),
-    )
+    let l = c .before .before .before .before .before .before .before .args .t1 in
+    let v = c .before .before .loop .inv in
+    let i = c .before .before .before .before .before .pairs .i in
+    let j = c .before .before .loop .j in
+    let n = c .before .before .before .before .before .before .lengths-of .ensures .1 in
+    let q = c .before .loop-test .taken in
+    let a = each-placed blank (l .items) (l .count) i (omega (arith, v .1, v .2)) (v .4) (v .3) in
+    let b = each-placed blank (l .items) (l .count) j (omega (arith, v .1, v .2)) q (v .3) in
+    (a, (n i (v .4), (b, n j q)))
 
 add-j-2 : tie.Need-add-j-2 Inv-loop μ-loop Inv-pairs μ-pairs
 add-j-2 c = search needs
@@ -87,7 +104,7 @@ loop-less c = search needs
 
 loop-again : tie.Need-loop-again Inv-loop μ-loop Inv-pairs μ-pairs
 loop-again c =
-    let a = c .before .before .before .before .before .before .before .before .before .args .list in
+    let a = c .before .before .before .before .before .before .before .before .before .args .t1 in
     let v = c .before .before .before .before .loop .inv in (
       v .0,
       v .1,
@@ -111,7 +128,7 @@ pairs-less c = search needs
 
 pairs-again : tie.Need-pairs-again Inv-loop μ-loop Inv-pairs μ-pairs
 pairs-again c =
-    let a = c .before .before .before .before .before .before .args .list in
+    let a = c .before .before .before .before .before .before .args .t1 in
     let v = c .before .loop .inv in (
       v .0,
       v .1,
@@ -125,7 +142,7 @@ pairs-again c =
 returns : tie.Need-returns Inv-loop μ-loop Inv-pairs μ-pairs
 unfolding piecesOf
 returns c =
-    let a = c .before .before .before .args .list in
+    let a = c .before .before .before .args .t1 in
     let v = c .before .pairs .inv in
     v .0
     ∙ sym (ap not (rows-end (a .items) (a .count) blank (omega (arith, v .1, v .2)) apart (c .before .pairs .i)
@@ -134,7 +151,7 @@ returns c =
 returns-2 : tie.Need-returns-2 Inv-loop μ-loop Inv-pairs μ-pairs
 unfolding piecesOf
 returns-2 c =
-    let a = c .before .before .before .before .before .before .before .before .before .args .list in
+    let a = c .before .before .before .before .before .before .before .before .before .args .t1 in
     let v = c .before .before .before .before .loop .inv in
     sym (ap not
     (pair-fails (a .items) (a .count) blank (omega (arith, v .1, v .2)) apart
@@ -150,13 +167,18 @@ any-shared-spec =
     μ-loop
     Inv-pairs
     μ-pairs
+    lengths-of-requires
     pairs-holds
     mul-a
-    array-copy-out-a
+    element-copy-out-a
+    mul-n
+    array-read-n
     add-j
     loop-holds
     mul-b
-    array-copy-out-b
+    element-copy-out-b
+    mul-m
+    array-read-m
     shares-block-requires
     add-j-2
     loop-less

@@ -1,111 +1,130 @@
--- `decoder::gather::gathered` meets its contract: the list has the pieces of the first `i` files. Assumes nothing.
-use mathlib.Core.Path.{_≡_, _∙_, sym, ap}
+-- `decoder::gather::gathered` meets its contract: its loops are in `Loops`. Assumes nothing.
+use mathlib.Core.Path.{_≡_, _∙_, ap, ap₂}
 use mathlib.Core.List.{_++_}
-use Prim.Native.Nat.{_*_, _-_, _≤_, _<_}
 use native.Mathlib.Omega.{arith}
-use lib.ListN.{length, take, getD}
+use lib.ListN.{take}
 use borrow.Author.Needs.{needs}
-use Rattle.section.specs.Limits.{mostFiles}
-use Rattle.layout.specs.Lists.{Each}
 use Rattle.layout.specs.Layout.{filePieces}
-use Rattle.table.specs.Tables.{InPlaces, filesOf, freeOf, layoutOf, piecePlaces, piecesIn}
+use Rattle.table.specs.Tables.{filesOf, freeOf, layoutOf}
 use Rattle.decoder.specs.Checking.{piecesOf}
 use Rattle.decoder.proofs.EntryRuns.{filesTo}
-use Rattle.decoder.proofs.Joined.{blankEntry, each-at, file-pieces-more, no-file-pieces}
+use Rattle.decoder.proofs.gather.gathered.Proof.Loops.{Inv-pieces, μ-pieces, Inv-files, μ-files}
+use Rattle.decoder.proofs.gather.gathered.Proof.Loops.{Inv-free, μ-free}
+use Rattle.decoder.proofs.gather.gathered.Proof.Loops.{files-again, files-holds, free-again, free-holds}
+use Rattle.decoder.proofs.gather.gathered.Proof.Loops.{pieces-again, pieces-holds}
 use Rattle.decoder.proofs.gather.gathered.Statement.{statement}
 use Rattle.decoder.proofs.gather.gathered.Tie as tie
+mod Loops
 
-abbrev Inv-loop : tie.InvT-loop
-Inv-loop table count files list₀ i₀ list i =
-    (count ≤ mostFiles) × (length files ≡ mostFiles) × Each InPlaces files × (i ≤ count)
-    × (list .count ≤ piecePlaces * i) × (piecesOf list ≡ filePieces (filesTo i files))
+no-section-requires : tie.Need-no-section-requires Inv-pieces μ-pieces Inv-files μ-files Inv-free μ-free
+no-section-requires c κs = search needs
 
-abbrev μ-loop : tie.MeasureT-loop
-μ-loop table count files list₀ i₀ list i = count - i
-
-none-gathered-requires : tie.Need-none-gathered-requires Inv-loop μ-loop
-none-gathered-requires c κs = search needs
-
-loop-holds : tie.Need-loop-holds Inv-loop μ-loop
-unfolding piecesOf
-loop-holds c =
-    let p = c .before .before .pre in
-    let e = c .none-gathered .ensures .0 in (
-      p .sized .files,
-      p .array,
-      p .sized .each,
-      omega arith,
-      omega (arith, e),
-      ap (λ m. take m (c .none-gathered .result .items)) e
-          ∙ sym (no-file-pieces (c .before .before .args .table .files)),
-    )
-
-mul-entry : tie.Need-mul-entry Inv-loop μ-loop
+mul-entry : tie.Need-mul-entry Inv-pieces μ-pieces Inv-files μ-files Inv-free μ-free
 mul-entry c = search needs
 
-array-copy-out-entry : tie.Need-array-copy-out-entry Inv-loop μ-loop
-array-copy-out-entry c = search needs
+element-copy-out-entry : tie.Need-element-copy-out-entry Inv-pieces μ-pieces Inv-files μ-files Inv-free μ-free
+element-copy-out-entry c = search needs
 
-with-file-requires : tie.Need-with-file-requires Inv-loop μ-loop
-with-file-requires c κs =
-    let v = c .before .before .loop .inv in
-    let e = each-at {P = InPlaces} blankEntry (v .2) (c .before .before .loop .i)
-    (omega (arith, v .0, v .1, c .before .loop-test .taken)) in
-    (omega (arith, e), e)
+places-of-requires : tie.Need-places-of-requires Inv-pieces μ-pieces Inv-files μ-files Inv-free μ-free
+places-of-requires c κs = search needs
 
-add-i : tie.Need-add-i Inv-loop μ-loop
+mul-piece : tie.Need-mul-piece Inv-pieces μ-pieces Inv-files μ-files Inv-free μ-free
+mul-piece c = search needs
+
+array-copy-out-piece : tie.Need-array-copy-out-piece Inv-pieces μ-pieces Inv-files μ-files Inv-free μ-free
+array-copy-out-piece c = search needs
+
+mul-items : tie.Need-mul-items Inv-pieces μ-pieces Inv-files μ-files Inv-free μ-free
+mul-items c = search needs
+
+array-set-from-items : tie.Need-array-set-from-items Inv-pieces μ-pieces Inv-files μ-files Inv-free μ-free
+array-set-from-items c = search needs
+
+add-at : tie.Need-add-at Inv-pieces μ-pieces Inv-files μ-files Inv-free μ-free
+add-at c = search needs
+
+add-j : tie.Need-add-j Inv-pieces μ-pieces Inv-files μ-files Inv-free μ-free
+add-j c = search needs
+
+pieces-less : tie.Need-pieces-less Inv-pieces μ-pieces Inv-files μ-files Inv-free μ-free
+pieces-less c = search needs
+
+add-i : tie.Need-add-i Inv-pieces μ-pieces Inv-files μ-files Inv-free μ-free
 add-i c = search needs
 
-loop-less : tie.Need-loop-less Inv-loop μ-loop
-loop-less c = search needs
+files-less : tie.Need-files-less Inv-pieces μ-pieces Inv-files μ-files Inv-free μ-free
+files-less c = search needs
 
-loop-again : tie.Need-loop-again Inv-loop μ-loop
-loop-again c =
-    let v = c .before .before .before .loop .inv in
-    let f = c .before .before .before .before .before .before .args .table .files in
-    let i = c .before .before .before .loop .i in
-    let l : i < length f = omega (arith, v .0, v .1, c .before .before .loop-test .taken) in
-    let e = each-at {P = InPlaces} blankEntry (v .2) i l in (
-      v .0,
-      v .1,
-      v .2,
-      omega arith,
-      omega (arith, c .with-file .ensures .count, e),
-      c .with-file .ensures .list
-          ∙ (ap (λ z. z ++ piecesIn (getD f i blankEntry)) (v .5) ∙ sym (file-pieces-more f i l)),
-    )
+mul-piece-2 : tie.Need-mul-piece-2 Inv-pieces μ-pieces Inv-files μ-files Inv-free μ-free
+mul-piece-2 c = search needs
 
-with-free-requires : tie.Need-with-free-requires Inv-loop μ-loop
-with-free-requires c κs =
-    let v = c .before .before .loop .inv in
-    let p = c .before .before .before .before .before .pre in
-    (omega (arith, p .sized .free), p .sized .free)
+array-copy-out-piece-2 : tie.Need-array-copy-out-piece-2 Inv-pieces μ-pieces Inv-files μ-files Inv-free μ-free
+array-copy-out-piece-2 c = search needs
 
-returns : tie.Need-returns Inv-loop μ-loop
-unfolding layoutOf filesOf
+mul-items-2 : tie.Need-mul-items-2 Inv-pieces μ-pieces Inv-files μ-files Inv-free μ-free
+mul-items-2 c = search needs
+
+array-set-from-items-2 : tie.Need-array-set-from-items-2 Inv-pieces μ-pieces Inv-files μ-files Inv-free μ-free
+array-set-from-items-2 c = search needs
+
+add-at-2 : tie.Need-add-at-2 Inv-pieces μ-pieces Inv-files μ-files Inv-free μ-free
+add-at-2 c = search needs
+
+add-k : tie.Need-add-k Inv-pieces μ-pieces Inv-files μ-files Inv-free μ-free
+add-k c = search needs
+
+free-less : tie.Need-free-less Inv-pieces μ-pieces Inv-files μ-files Inv-free μ-free
+free-less c = search needs
+
+returns : tie.Need-returns Inv-pieces μ-pieces Inv-files μ-files Inv-free μ-free
+unfolding piecesOf layoutOf filesOf freeOf
 returns c =
-    let v = c .before .before .before .loop .inv in
-    let t = c .before .before .before .before .before .before .args .table in
-    let p = c .before .before .before .before .before .before .pre in
-    let e : c .before .before .before .loop .i ≡ t .count = omega arith in (
-      omega (arith, c .with-free .ensures .count, p .sized .free),
-      c .with-free .ensures .list
-          ∙ ap (λ z. z ++ freeOf (t .free)) (v .5 ∙ ap (λ i. filePieces (filesTo i (t .files))) e),
+    let t = c .before .before .before .before .before .before .before .args .t1 in
+    let o = c .before .before .before .before .before .files in
+    let b = c .before .free in
+    let v = b .inv in
+    let e : o .i ≡ t .count = omega (arith, c .before .before .before .before .files-test .left, o .inv .4) in
+    let k : b .k ≡ t .free .count = omega (arith, v .3) in (
+      omega (arith, v .0, v .3, v .4),
+      v .5
+          ∙ ap₂ (λ z n. z ++ take n (t .free .items))
+          (o .inv .6 ∙ ap (λ i. filePieces (filesTo i (t .files))) e) k,
     )
 
 pub gathered-spec : {M : Type 1} → statement M
 gathered-spec =
     tie.close
     (tie.spec
-    Inv-loop
-    μ-loop
-    none-gathered-requires
-    loop-holds
+    Inv-pieces
+    μ-pieces
+    Inv-files
+    μ-files
+    Inv-free
+    μ-free
+    no-section-requires
+    files-holds
     mul-entry
-    array-copy-out-entry
-    with-file-requires
+    element-copy-out-entry
+    places-of-requires
+    pieces-holds
+    mul-piece
+    array-copy-out-piece
+    mul-items
+    array-set-from-items
+    add-at
+    add-j
+    pieces-less
+    pieces-again
     add-i
-    loop-less
-    loop-again
-    with-free-requires
+    files-less
+    files-again
+    free-holds
+    mul-piece-2
+    array-copy-out-piece-2
+    mul-items-2
+    array-set-from-items-2
+    add-at-2
+    add-k
+    free-less
+    free-again
     returns)

@@ -5,4 +5,4 @@ pub mod Removals
 pub mod Placing
 pub mod AddChecks
 pub mod AddJudged
-pub mod FreshTable
+pub mod FreshPieces

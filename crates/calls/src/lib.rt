@@ -7,7 +7,7 @@ mod fresh;
 mod removing;
 
 pub use adding::add_in;
-pub use fresh::fresh_table;
+pub use fresh::fresh_free;
 use looking::Answer;
 pub use removing::remove_in;
 pub use removing::settle;

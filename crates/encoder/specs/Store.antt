@@ -1,8 +1,10 @@
 -- What the functions that write a catalogue ask for and promise. Definitions only.
-use mathlib.Core.List.{List, _++_}
+use mathlib.Core.List.{List, [], _++_}
 use mathlib.Core.Path.{_≡_}
 use Prim.Native.Nat.{_+_, _≤_, ℕ}
 use lib.ListN.{length, take}
+use Rattle.section.specs.declared.Section.{Section}
+use Rattle.layout.specs.Layout.{Layout}
 use Rattle.catalogue.specs.Encoding.{bigEndian}
 
 -- the bytes bs have room from at on
@@ -18,3 +20,7 @@ pub record Written (before : List ℕ) (at : ℕ) (bs after : List ℕ) (r : ℕ
 -- version 1, n blocks and m files
 abbrev pub headerFields : ℕ → ℕ → List ℕ
 headerFields n m = bigEndian 2 1 ++ (bigEndian 2 n ++ bigEndian 2 m)
+
+-- the layout of a disk of n blocks with no file, and the free pieces l
+abbrev pub noFiles : ℕ → List Section → Layout
+noFiles n l = record { blocks = n; files = []; free = l }

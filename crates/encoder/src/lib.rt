@@ -2,3 +2,4 @@
 mod storing;
 
 pub use storing::store;
+pub use storing::store_fresh;

@@ -16,7 +16,7 @@ ghost use Rattle.table.specs.Tables.{Sized, fileOf, freeOf, freePlaces, layoutO
 ghost use Rattle.catalogue.specs.Encoding.{bigEndian, encode, entryBytes, pairBytes, pairsBytes};
 ghost use Rattle.catalogue.specs.Version.{version1};
 ghost use Rattle.pieces.specs.Pieces.{Low, LowEntry};
-ghost use Rattle.encoder.specs.Store.{Room, Written, headerFields};
+ghost use Rattle.encoder.specs.Store.{Room, Written, headerFields, noFiles};
 
 // Writes a number in two bytes, the high one first.
 fn write_field(cat: &mut [u8], at: usize, value: u32) -> usize
@@ -109,5 +109,18 @@ pub fn store(cat: &mut [u8], t: Table)
         i += 1;
     }
     let end = write_pairs(cat, next, t.free);
+    clear(cat, end);
+}
+
+// Writes the catalogue of a disk with no file: header, free pairs, and zero bytes to the end.
+pub fn store_fresh(cat: &mut [u8], blocks: u32, free: Free)
+    requires { ⌜ length (now cat) ≡ catalogueSize ⌝ }
+    requires { ⌜ free .count ≤ freePlaces ⌝ }
+    requires { ⌜ Sound 13 (noFiles blocks (freeOf free)) ⌝ }
+    ensures { λ _. ⌜ now (cat .exit) ≡ encode version1 (noFiles blocks (freeOf free)) ⌝ }
+{
+    let count: u32 = 0;
+    let next = write_header(cat, blocks, count);
+    let end = write_pairs(cat, next, free);
     clear(cat, end);
 }

@@ -1,21 +1,28 @@
--- The outcome of a format: each refusal by its condition, and the fresh catalogue. Assumes nothing.
+-- The outcome of a format: each refusal by its condition, and the fresh catalogue, which is sound. Assumes nothing.
 use mathlib.Core.Bool.{_||_, false, not, true}
 use mathlib.Core.List.{List, [], _∷_}
-use mathlib.Core.Path.{_∙_, _≡_, ap, ap₂, refl}
+use mathlib.Core.Path.{_∙_, _≡_, ap, ap₂, refl, subst, sym}
 use Prim.Native.Nat.{_%_, _/_, _<_, _≤_, suc, zero, ℕ}
 use native.Mathlib.Omega.{arith}
 use lib.Dec.{eqb, ltb}
 use lib.ListN.{length}
 use borrow.Author.Tests.{eq-eqb, le-ltb, lt-ltb, ne-eqb}
+use Rattle.calls.specs.Fresh.{FreeFor}
 use Rattle.catalogue.specs.Encoding.{encode}
 use Rattle.catalogue.specs.Version.{greatestBlocks, version1}
-use Rattle.layout.specs.Layout.{freshLayout}
+use Rattle.encoder.specs.Store.{noFiles}
+use Rattle.layout.proofs.Fresh.{fresh-sound}
+use Rattle.layout.proofs.Soundness.{sums-sound}
+use Rattle.layout.specs.Layout.{Layout, freshLayout}
+use Rattle.layout.specs.Sound.{Sound}
 use Rattle.manager.proofs.Judging.{passes, refuses-by}
 use Rattle.manager.specs.Conditions.{Outcome, allowed, answered, condition, firstRefusal, formatConditions, noDisk}
 use Rattle.manager.specs.Conditions.{outcome, refusal, refused, unlessRefused, wrongCatalogue}
 use Rattle.manager.specs.Disk.{pageCount}
 use Rattle.manager.specs.Outcomes.{formatOutcome}
 use Rattle.section.specs.Limits.{blockSize, catalogueSize, greatestDisk}
+use Rattle.table.specs.Tables.{freeOf}
+use Rattle.table.specs.declared.Free.{Free}
 
 module _ (cat d : List ℕ) where
   abbrev formatted : Outcome
@@ -75,3 +82,14 @@ module _ (cat d : List ℕ) where
 pub some-blocks : (n : ℕ) → (n ≡ 0 → ⊥) → n % blockSize ≡ 0 → 1 ≤ n / blockSize
 some-blocks zero nz e = absurd (nz refl)
 some-blocks (suc n) nz e = omega (arith, e)
+
+-- ---- the fresh catalogue's layout
+
+pub fresh-layout : (c : ℕ) (f : Free) → FreeFor c f → noFiles c (freeOf f) ≡ freshLayout 13 c
+unfolding freshLayout
+fresh-layout c f g = ap {B = Layout} (noFiles c) (g .list)
+
+pub fresh-rules : (c : ℕ) (f : Free) → 1 ≤ c → c ≤ greatestDisk → FreeFor c f → Sound 13 (noFiles c (freeOf f))
+fresh-rules c f low most g =
+    subst (Sound 13) (sym (fresh-layout c f g))
+    (sums-sound 13 (freshLayout 13 c) (fresh-sound 13 c low (omega arith) (omega arith)))

@@ -27,7 +27,7 @@ pub fn format(cat: &mut [u8], disk: &[u8]) -> Answer
         return Answer::NoDisk;
     }
     let c = blocks as u32;
-    let table = calls::fresh_table(c);
-    encoder::store(cat, table);
+    let free = calls::fresh_free(c);
+    encoder::store_fresh(cat, c, free);
     Answer::Number(c)
 }

@@ -1,20 +1,24 @@
 -- `calls::fresh::fresh_free` meets its contract. The loop's invariant: the pieces so far and those for the ones
--- below height `h` are all, and there is room for the pieces below `h`. Assumes nothing.
-use mathlib.Core.Path.{_∙_, _≡_, ap}
-use Prim.Native.Nat.{_+_, _-_, _≤_, suc}
+-- below height `h` are all, and there is room for the pieces below `h`. A turn adds the piece of its height if the
+-- quotient by the height's length is odd. Assumes nothing.
+use mathlib.Core.Path.{_∙_, _≡_, ap, sym}
+use Prim.Native.Nat.{_%_, _*_, _+_, _-_, _/_, _^_, _≤_, suc, ℕ}
+use native.Mathlib.Nat.{mod-le}
 use native.Mathlib.Omega.{arith}
+use lib.ListN.{length, length-set}
 use borrow.Author.Needs.{needs}
 use Rattle.section.specs.Limits.{greatestHeight}
 use Rattle.layout.specs.Layout.{piecesFrom}
+use Rattle.table.proofs.Arrays.{length-of-mapped}
 use Rattle.table.specs.Tables.{piecePlaces}
 use Rattle.calls.specs.Fresh.{piecesWith}
-use Rattle.calls.proofs.FreshTable.{pieces-end, pieces-start}
+use Rattle.calls.proofs.FreshPieces.{pieces-end, pieces-push, pieces-skip, pieces-start}
 use Rattle.calls.proofs.fresh.fresh_free.Statement.{statement}
 use Rattle.calls.proofs.fresh.fresh_free.Tie as tie
 
 abbrev Inv-loop : tie.InvT-loop
 Inv-loop blocks free₀ h₀ free h =
-    (h ≤ suc greatestHeight) × (free .count + h ≤ piecePlaces)
+    (h ≤ suc greatestHeight) × (free .count + h ≤ piecePlaces) × (length (free .items) ≡ 26)
     × (piecesWith blocks h free ≡ piecesFrom (suc greatestHeight) blocks 0)
 
 abbrev μ-loop : tie.MeasureT-loop
@@ -28,34 +32,78 @@ add-h c = search needs
 
 loop-holds : tie.Need-loop-holds Inv-loop μ-loop
 loop-holds c =
-    let n = c .none in (
+    let n = c .none in
+    let long : length (n .result .items) ≡ 26 = search (needs, length-of-mapped) in (
       omega arith,
       omega (arith, n .ensures .count),
+      long,
       pieces-start (c .before .args .blocks) (n .result) (c .before .pre) (n .ensures .list),
     )
 
 sub-h : tie.Need-sub-h Inv-loop μ-loop
 sub-h c = search needs
 
-with-height-requires : tie.Need-with-height-requires Inv-loop μ-loop
-with-height-requires c κs =
-    let v = c .before .loop .inv in (
-      omega (arith, v .0, c .loop-test .taken),
-      omega (arith, v .1, c .loop-test .taken),
-    )
+length-requires : tie.Need-length-requires Inv-loop μ-loop
+length-requires c κs = omega (arith, c .before .loop .inv .0, c .loop-test .taken)
+
+div-if1 : tie.Need-div-if1 Inv-loop μ-loop
+div-if1 c = search needs
+
+mul-first : tie.Need-mul-first Inv-loop μ-loop
+mul-first c = search needs
+
+rem-first : tie.Need-rem-first Inv-loop μ-loop
+rem-first c = search needs
+
+sub-first : tie.Need-sub-first Inv-loop μ-loop
+sub-first c = search (needs, mod-le)
+
+mul-s : tie.Need-mul-s Inv-loop μ-loop
+mul-s c = search needs
+
+element-set-from-s : tie.Need-element-set-from-s Inv-loop μ-loop
+element-set-from-s c = search needs
+
+add-free : tie.Need-add-free Inv-loop μ-loop
+add-free c = search needs
 
 loop-less : tie.Need-loop-less Inv-loop μ-loop
 loop-less c = search needs
 
 loop-again : tie.Need-loop-again Inv-loop μ-loop
 loop-again c =
-    let l = c .before .before .loop in
-    let k = c .with-height .ensures in
-    let e : suc (l .h - 1) ≡ l .h = omega (arith, c .before .loop-test .taken) in (
+    let b = c .before .before .before .before .before .args .blocks in
+    let l = c .before .before .before .loop in
+    let n = c .before .length in
+    let more = c .before .before .loop-test .taken in
+    let next : suc (l .h - 1) ≡ l .h = omega (arith, more) in
+    let twice : 2 * n .result ≡ 2 ^ suc (l .h - 1) = omega (arith, n .ensures .equal) in (
       omega (arith, l .inv .0),
-      omega (arith, l .inv .1, k .most, c .before .loop-test .taken),
-      k .list
-          ∙ (ap (λ z. piecesWith (c .before .before .before .before .args .blocks) z (l .free)) e ∙ l .inv .2),
+      omega (arith, l .inv .1, more),
+      simp length-set (l .inv .2),
+      pieces-push b (l .h - 1) (l .free) _
+          (ap (λ (z : ℕ). b / z % 2) (sym (n .ensures .equal)) ∙ c .if1 .taken)
+          (ap (λ (z : ℕ). b - b % z) twice)
+          (omega (arith, l .inv .2, l .inv .1, more))
+          ∙ (ap (λ z. piecesWith b z (l .free)) next ∙ l .inv .3),
+    )
+
+loop-less-2 : tie.Need-loop-less-2 Inv-loop μ-loop
+loop-less-2 c = search needs
+
+loop-again-2 : tie.Need-loop-again-2 Inv-loop μ-loop
+loop-again-2 c =
+    let b = c .before .before .before .before .before .args .blocks in
+    let l = c .before .before .before .loop in
+    let n = c .before .length in
+    let more = c .before .before .loop-test .taken in
+    let next : suc (l .h - 1) ≡ l .h = omega (arith, more) in
+    let even : b / (n .result) % 2 ≡ 0 = omega (arith, c .if1 .left) in (
+      omega (arith, l .inv .0),
+      omega (arith, l .inv .1),
+      l .inv .2,
+      pieces-skip b (l .h - 1) (l .free) (ap (λ (z : ℕ). b / z % 2) (sym (n .ensures .equal)) ∙ even)
+          ∙ (ap (λ z. piecesWith b z (l .free)) next ∙ l .inv .3),
     )
 
 returns : tie.Need-returns Inv-loop μ-loop
@@ -63,7 +111,7 @@ returns c =
     let l = c .before .loop in
     let e : l .h ≡ 0 = omega (arith, c .loop-test .left) in
     record {
-      list = pieces-end (c .before .before .before .args .blocks) (l .h) (l .free) e ∙ l .inv .2;
+      list = pieces-end (c .before .before .before .args .blocks) (l .h) (l .free) e ∙ l .inv .3;
       most = omega (arith, l .inv .1);
     }
 
@@ -77,7 +125,16 @@ fresh-free-spec =
     add-h
     loop-holds
     sub-h
-    with-height-requires
+    length-requires
+    div-if1
+    mul-first
+    rem-first
+    sub-first
+    mul-s
+    element-set-from-s
+    add-free
     loop-less
     loop-again
+    loop-less-2
+    loop-again-2
     returns)

@@ -9,7 +9,7 @@ use borrow.Author.Needs.{needs}
 use Rattle.pieces.proofs.SoundPieces.{files-low, free-low}
 use Rattle.table.proofs.Arrays.{length-of-mapped}
 use Rattle.table.proofs.EachItem.{each-taken}
-use Rattle.table.specs.Tables.{fileOf, filesOf}
+use Rattle.table.specs.Tables.{fileOf, filesOf, layoutOf}
 use Rattle.table.specs.declared.Entry.{Entry}
 use Rattle.catalogue.specs.Encoding.{entriesBytes, entryBytes}
 use Rattle.encoder.specs.Store.{Written}
@@ -29,12 +29,13 @@ cast-write-header : tie.Need-cast-write-header Inv-loop μ-loop
 cast-write-header c = search needs
 
 write-header-requires : tie.Need-write-header-requires Inv-loop μ-loop
+unfolding layoutOf
 write-header-requires c κs =
     let s = c .before .before in
     let t = s .args .t2 in
     let n : length (t .files) ≡ 64 = search (needs, length-of-mapped) in
     let k = files-count t (s .pre .1 .0) n in
-    header-room t k (s .pre .1 .1) (s .args .cat .now) (s .pre .0)
+    header-room (layoutOf t) (t .count) k (s .pre .1 .1) (s .args .cat .now) (s .pre .0)
 
 loop-holds : tie.Need-loop-holds Inv-loop μ-loop
 unfolding entriesBytes
@@ -42,7 +43,8 @@ loop-holds c = (
   refl,
   omega arith,
   list-none (λ (e : Entry). entryBytes 2 (fileOf e)) (λ l. entriesBytes 2 (map fileOf l)) refl (λ a l. refl)
-      (c .before .before .before .before .before .args .t2 .files) (c .before .before .write-header .last .0) (c .before .before .write-header .result),
+      (c .before .before .before .before .before .args .t2 .files) (c .before .before .write-header .last .0)
+      (c .before .before .write-header .result),
 )
 
 mul-e : tie.Need-mul-e Inv-loop μ-loop
@@ -52,7 +54,7 @@ element-copy-out-e : tie.Need-element-copy-out-e Inv-loop μ-loop
 element-copy-out-e c = search needs
 
 write-entry-requires : tie.Need-write-entry-requires Inv-loop μ-loop
-unfolding entriesBytes filesOf
+unfolding entriesBytes filesOf layoutOf
 write-entry-requires c κs =
     let l = c .before .before .before .loop in
     let h = c .before .before .before .before .before .before .write-header in
@@ -60,9 +62,12 @@ write-entry-requires c κs =
     let t = s .args .t2 in
     let n : length (t .files) ≡ 64 = search (needs, length-of-mapped) in
     let k = files-count t (s .pre .1 .0) n in (
-      each-taken (t .files) (t .count) _ _ (omega arith) (files-low t (s .pre .1 .0) (s .pre .1 .1) .each) (omega arith),
-      list-room (λ (e : Entry). entryBytes 2 (fileOf e)) (λ l. entriesBytes 2 (map fileOf l)) refl (λ a l. refl) (t .files) _ (h .last .0) (l .cat) (h .result) (t .count) (l .i) (l .next) (omega arith) (omega arith)
-          (files-room t k (s .pre .1 .1) (s .args .cat .now) (s .pre .0) (h .last .0) (h .result) (h .ensures)) (l .inv .2),
+      each-taken (t .files) (t .count) _ _ (omega arith) (files-low t (s .pre .1 .0) (s .pre .1 .1) .each)
+          (omega arith),
+      list-room (λ (e : Entry). entryBytes 2 (fileOf e)) (λ l. entriesBytes 2 (map fileOf l)) refl (λ a l. refl)
+          (t .files) _ (h .last .0) (l .cat) (h .result) (t .count) (l .i) (l .next) (omega arith) (omega arith)
+          (files-room (layoutOf t) (t .count) k (s .pre .1 .1) (s .args .cat .now) (s .pre .0) (h .last .0)
+          (h .result) (h .ensures)) (l .inv .2),
     )
 
 add-i : tie.Need-add-i Inv-loop μ-loop
@@ -81,12 +86,13 @@ loop-again c =
     let n : length (t .files) ≡ 64 = search (needs, length-of-mapped) in (
       refl,
       omega arith,
-      list-more (λ (e : Entry). entryBytes 2 (fileOf e)) (λ l. entriesBytes 2 (map fileOf l)) refl (λ a l. refl) (t .files) _ (h .last .0) (l .cat) _ (h .result) (l .i) (l .next) _ (omega arith) (l .inv .2)
+      list-more (λ (e : Entry). entryBytes 2 (fileOf e)) (λ l. entriesBytes 2 (map fileOf l)) refl (λ a l. refl)
+          (t .files) _ (h .last .0) (l .cat) _ (h .result) (l .i) (l .next) _ (omega arith) (l .inv .2)
           (c .before .before .write-entry .ensures),
     )
 
 write-pairs-requires : tie.Need-write-pairs-requires Inv-loop μ-loop
-unfolding filesOf
+unfolding filesOf layoutOf
 write-pairs-requires c κs =
     let l = c .before .before .before .loop in
     let h = c .before .before .before .before .before .before .write-header in
@@ -97,11 +103,15 @@ write-pairs-requires c κs =
     let q : l .i ≡ t .count = omega arith in
     let w = rw q at (l .inv .2) in (
       s .pre .1 .0 .free,
-      (free-low t (s .pre .1 .0) (s .pre .1 .1), free-room t k (s .pre .1 .1) (s .args .cat .now) (s .pre .0) (h .last .0) (h .result) (h .ensures) (l .cat) (l .next) w),
+      (
+        free-low t (s .pre .1 .0) (s .pre .1 .1),
+        free-room (layoutOf t) (t .count) k (s .pre .1 .1) (s .args .cat .now) (s .pre .0) (h .last .0) (h .result)
+            (h .ensures) (l .cat) (l .next) w,
+      ),
     )
 
 clear-requires : tie.Need-clear-requires Inv-loop μ-loop
-unfolding filesOf
+unfolding filesOf layoutOf
 clear-requires c κs =
     let f = c .before .before .before .write-pairs in
     let l = c .before .before .before .before .before .before .before .loop in
@@ -112,25 +122,28 @@ clear-requires c κs =
     let k = files-count t (s .pre .1 .0) n in
     let q : l .i ≡ t .count = omega arith in
     let w = rw q at (l .inv .2) in
-    end-room t k (s .pre .1 .1) (s .args .cat .now) (s .pre .0) (h .last .0) (h .result) (h .ensures) (l .cat) (l .next) w (f .last .0) (f .result) (f .ensures)
+    end-room (layoutOf t) (t .count) k (s .pre .1 .1) (s .args .cat .now) (s .pre .0) (h .last .0) (h .result) (h .ensures)
+    (l .cat) (l .next) w (f .last .0) (f .result) (f .ensures)
 
 same-length : tie.Need-same-length Inv-loop μ-loop
 same-length c = search needs
 
 returns : tie.Need-returns Inv-loop μ-loop
-unfolding filesOf
+unfolding filesOf layoutOf
 returns c =
     let z = c .before .before .clear in
-    let f = c .before .before .before .before .before .before .write-pairs in
-    let l = c .before .before .before .before .before .before .before .before .before .before .loop in
-    let h = c .before .before .before .before .before .before .before .before .before .before .before .before .before .write-header in
-    let s = c .before .before .before .before .before .before .before .before .before .before .before .before .before .before .before .before in
+    let d = c .before .before .before .before .before .before in
+    let f = d .write-pairs in
+    let l = d .before .before .before .before .loop in
+    let h = d .before .before .before .before .before .before .before .write-header in
+    let s = d .before .before .before .before .before .before .before .before .before .before in
     let t = s .args .t2 in
     let n : length (t .files) ≡ 64 = search (needs, length-of-mapped) in
     let k = files-count t (s .pre .1 .0) n in
     let q : l .i ≡ t .count = omega arith in
     let w = rw q at (l .inv .2) in
-    stored t k (s .pre .1 .1) (s .args .cat .now) (s .pre .0) (h .last .0) (h .result) (h .ensures) (l .cat) (l .next) w (f .last .0) (f .result) (f .ensures) (z .last .0) (z .ensures)
+    stored (layoutOf t) (t .count) k (s .pre .1 .1) (s .args .cat .now) (s .pre .0) (h .last .0) (h .result) (h .ensures)
+    (l .cat) (l .next) w (f .last .0) (f .result) (f .ensures) (z .last .0) (z .ensures)
 
 pub store-spec : {M : Type 1} → statement M
 store-spec =

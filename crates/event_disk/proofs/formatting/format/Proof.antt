@@ -1,11 +1,14 @@
 -- `event_disk::formatting::format` meets its contract: each return has the outcome of the definition. Assumes nothing.
 use mathlib.Core.Path.{_∙_, ap, sym}
+use Prim.Native.Nat.{_/_}
+use native.Mathlib.Omega.{arith}
 use lib.ListN.{length}
 use borrow.Author.Needs.{needs}
 use Rattle.catalogue.specs.Encoding.{encode}
 use Rattle.catalogue.specs.Version.{version1}
+use Rattle.section.specs.Limits.{blockSize}
 use Rattle.event_disk.proofs.FormatOutcome.{format-done, format-empty, format-large, format-part, format-wrong}
-use Rattle.event_disk.proofs.FormatOutcome.{some-blocks}
+use Rattle.event_disk.proofs.FormatOutcome.{fresh-layout, fresh-rules, some-blocks}
 use Rattle.event_disk.proofs.formatting.format.Statement.{statement}
 use Rattle.event_disk.proofs.formatting.format.Tie as tie
 
@@ -43,21 +46,28 @@ returns-4 c =
 cast-c : tie.Need-cast-c
 cast-c c = search needs
 
-fresh-table-requires : tie.Need-fresh-table-requires
-fresh-table-requires c κs =
-    let a = c .before .before .before .before .before .before in
-    (some-blocks (length (a .args .disk .now)) (c .before .before .if2 .left) (c .before .if3 .left), c .if4 .left)
+fresh-free-requires : tie.Need-fresh-free-requires
+fresh-free-requires c κs = c .if4 .left
 
-store-requires : tie.Need-store-requires
-store-requires c κs =
-    let t = c .before .fresh-table in
-    (c .before .before .before .before .before .if1 .left, (t .ensures .sized, t .ensures .rules))
+store-fresh-requires : tie.Need-store-fresh-requires
+store-fresh-requires c κs =
+    let t = c .before .fresh-free in
+    let b = c .before .before in
+    let n = length (b .before .before .before .before .before .before .args .disk .now) in (
+      b .before .before .before .if1 .left,
+      (
+        omega (arith, t .ensures .most),
+        fresh-rules (n / blockSize) (t .result) (some-blocks n (b .before .before .if2 .left) (b .before .if3 .left))
+            (b .if4 .left) (t .ensures),
+      ),
+    )
 
 same-length : tie.Need-same-length
 same-length c = search needs
 
 returns-5 : tie.Need-returns-5
 returns-5 c =
+    let t = c .before .before .before .before .fresh-free in
     let f = c .before .before .before .before .before in
     let a = f .before .before .before .before .before .before in
     let e =
@@ -65,8 +75,8 @@ returns-5 c =
     (f .before .before .if2 .left) (f .before .if3 .left) (f .if4 .left) in (
       sym (ap (λ o. o .reply) e),
       (
-        c .before .before .store .ensures
-            ∙ (ap (encode version1) (c .before .before .before .before .fresh-table .ensures .layout)
+        c .before .before .store-fresh .ensures
+            ∙ (ap (encode version1) (fresh-layout (length (a .args .disk .now) / blockSize) (t .result) (t .ensures))
             ∙ sym (ap (λ o. o .catalogue) e)),
         sym (ap (λ o. o .disk) e),
       ),
@@ -82,7 +92,7 @@ format-spec =
     cast-if4
     returns-4
     cast-c
-    fresh-table-requires
-    store-requires
+    fresh-free-requires
+    store-fresh-requires
     same-length
     returns-5)

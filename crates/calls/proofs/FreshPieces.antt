@@ -1,24 +1,19 @@
--- The free pieces of a fresh disk, height by height, and its table. Assumes nothing.
+-- The free pieces of a fresh disk, height by height. Assumes nothing.
 use mathlib.Core.List.{List, [], _++_, _∷_, append-nil}
-use mathlib.Core.Path.{_∙_, _≡_, ap, ap₂, refl, subst, sym}
+use mathlib.Core.Path.{_∙_, _≡_, ap, ap₂, refl, sym}
 use Prim.Native.Nat.{_%_, _*_, _+_, _-_, _<_, _^_, _≤_, suc, zero, ℕ}
 use native.Mathlib.Nat.{mod-eq-of-lt, mod-le}
 use native.Mathlib.Omega.{arith}
-use lib.ListN.{length, replicate, set, take}
+use lib.ListN.{length, set, take}
 use lib.Seq.{append-snoc}
-use Rattle.calls.specs.Fresh.{FreeFor, IsFresh, piecesWith}
+use Rattle.calls.specs.Fresh.{piecesWith}
 use Rattle.layout.proofs.Allocating.{mod-digit}
-use Rattle.layout.proofs.Fresh.{fresh-sound}
-use Rattle.layout.proofs.Soundness.{sums-sound}
-use Rattle.layout.specs.Layout.{Layout, digit, freshLayout, piecesFrom}
-use Rattle.layout.specs.Sound.{Sound}
+use Rattle.layout.specs.Layout.{digit, piecesFrom}
 use Rattle.section.specs.Limits.{greatestDisk, greatestHeight}
 use Rattle.section.specs.Sections.{section}
 use Rattle.section.specs.declared.Section.{Section}
-use Rattle.table.proofs.EachItem.{each-replicate}
 use Rattle.table.proofs.PiecesLaid.{pushed}
-use Rattle.table.specs.Tables.{InPlaces, filesOf, freeOf, layoutOf}
-use Rattle.table.specs.declared.Entry.{Entry}
+use Rattle.table.specs.Tables.{freeOf}
 use Rattle.table.specs.declared.Free.{Free}
 
 -- ---- one height
@@ -72,21 +67,3 @@ pub pieces-end : (c h : ℕ) (f : Free) → h ≡ 0 → freeOf f ≡ piecesWith 
 unfolding piecesWith piecesFrom
 pieces-end c h f e =
     sym (append-nil (freeOf f)) ∙ ap (λ k. freeOf f ++ piecesFrom k c (c - c % 2 ^ h)) (sym e)
-
--- ---- the table
-
--- the entry of every place
-abbrev pub no-entry : Entry
-no-entry = record { id = 0; count = 0; items = replicate 13 (section 0 0) }
-
-pub is-fresh : (c : ℕ) (e : Entry) (f : Free) → 1 ≤ c → c ≤ greatestDisk → InPlaces e → FreeFor c f
-    → IsFresh c (record { blocks = c; count = 0; files = replicate 64 e; free = f })
-unfolding layoutOf filesOf freshLayout
-is-fresh c e f low most k g =
-    let same = ap {B = Layout} (λ (l : List Section). record { blocks = c; files = []; free = l }) (g .list) in
-    record {
-      layout = same;
-      rules = subst (Sound 13) (sym same) (sums-sound 13 (freshLayout 13 c)
-          (fresh-sound 13 c low (omega arith) (omega arith)));
-      sized = record { files = omega arith; free = omega (arith, g .most); each = each-replicate 64 e k };
-    }

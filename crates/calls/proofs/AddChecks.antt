@@ -11,7 +11,8 @@ use Rattle.layout.specs.Adding.{allocate}
 use Rattle.layout.specs.Layout.{Layout, freeBlocks, hasFile}
 use Rattle.layout.specs.Lists.{done, more}
 use Rattle.manager.proofs.Judging.{none-applies, passes, refuses-by}
-use Rattle.manager.specs.Conditions.{Condition, Outcome, addChecks, allowed, condition, firstRefusal, refusal, unpaged, wrongDisk}
+use Rattle.manager.specs.Conditions.{Condition, Outcome, addChecks, allowed, condition, firstRefusal, refusal}
+use Rattle.manager.specs.Conditions.{unpaged, wrongDisk}
 use Rattle.manager.specs.Disk.{pageCount}
 use Rattle.manager.specs.Outcomes.{addPieces}
 use Rattle.section.specs.Limits.{mostFiles}

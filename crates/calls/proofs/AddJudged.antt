@@ -7,7 +7,8 @@ use native.Mathlib.Omega.{arith}
 use lib.Dec.{eqb}
 use lib.ListN.{length}
 use borrow.Author.Tests.{eq-eqb, le-leb, le-ltb, lt-leb, lt-ltb, ne-eqb}
-use Rattle.calls.proofs.AddChecks.{act, checks, judge-10, judge-11, judge-4, judge-5, judge-7, judge-8, judge-none}
+use Rattle.calls.proofs.AddChecks.{act, checks, judge-10, judge-11, judge-4, judge-5, judge-7, judge-8}
+use Rattle.calls.proofs.AddChecks.{judge-none}
 use Rattle.calls.proofs.Refusing.{refused-makes}
 use Rattle.looking.specs.Opened.{IsFree}
 use Rattle.calls.specs.Adding.{CanAdd, Places}
@@ -23,7 +24,8 @@ use Rattle.layout.proofs.Swaps.{right}
 use Rattle.layout.specs.Adding.{allocate, allocated}
 use Rattle.layout.specs.Layout.{freeBlocks, hasFile, isFound}
 use Rattle.layout.specs.Sound.{greatestId}
-use Rattle.manager.specs.Conditions.{Outcome, answered, firstRefusal, refusal, refused, unlessRefused, unpaged, wrongDisk}
+use Rattle.manager.specs.Conditions.{Outcome, answered, firstRefusal, refusal, refused, unlessRefused, unpaged}
+use Rattle.manager.specs.Conditions.{wrongDisk}
 use Rattle.manager.specs.Disk.{pageCount}
 use Rattle.manager.specs.Outcomes.{addPieces}
 use Rattle.section.specs.Limits.{blockSize, mostFiles}

@@ -131,7 +131,8 @@ module _ (t : Table) (op : Opened t) (id : ℕ) (d : List ℕ) where
           sound-after : Sound (suc greatestHeight) (layoutOf (s .table))
           sound-after =
               let x = found-find id (layoutOf t .files) gone there in
-              subst (Sound (suc greatestHeight)) (sym after) (sums-sound (suc greatestHeight) _ (keeps (x .0) (x .1) .sound))
+              subst (Sound (suc greatestHeight)) (sym after)
+              (sums-sound (suc greatestHeight) _ (keeps (x .0) (x .1) .sound))
 
           outcome-is : (cat : List ℕ)
               → removeOn (layoutOf t) id cat d

@@ -22,7 +22,7 @@ pub use moves::files_moved;
 pub use release::free_with;
 pub use taking::take_piece;
 
-// The free pieces by rising first block. Between a release and its merges there are more of them than a sound layout has.
+// The free pieces by rising first block. Between a release and its merges there are more than a sound layout has.
 pub struct Free {
     pub count: usize,
     pub items: [Section; 26],

@@ -2,7 +2,7 @@
 
 use crate::disk::{copy_merge, read_pages, write_pages};
 use crate::loading::load;
-use crate::storing::store;
+use crate::storing::{store, store_fresh};
 use crate::table::{Entry, Table};
 use crate::{BLOCK, CATALOGUE, MOST_BLOCKS, MOST_FILES};
 
@@ -40,7 +40,7 @@ pub fn format(cat: &mut [u8], disk: &[u8]) -> Answer {
     refuse_if(cat.len() != CATALOGUE, 1)?;
     let blocks = disk.len() / BLOCK;
     refuse_if(!disk.len().is_multiple_of(BLOCK) || !(1..=MOST_BLOCKS).contains(&blocks), 2)?;
-    store(cat, &Table::fresh(blocks as u32));
+    store_fresh(cat, blocks as u32);
     Ok(blocks as u64)
 }
 

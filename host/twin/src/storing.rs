@@ -24,12 +24,26 @@ impl Fields<'_> {
     }
 }
 
+impl<'a> Fields<'a> {
+    /// Writes the header.
+    fn of_catalogue(cat: &'a mut [u8], blocks: u32, files: usize) -> Fields<'a> {
+        let mut fields = Fields { rest: cat };
+        fields.put(VERSION);
+        fields.put(blocks);
+        fields.put(files as u32);
+        fields
+    }
+
+    /// Writes the free pairs, and zero bytes to the end.
+    fn end_with<const PLACES: usize>(mut self, free: &Pieces<PLACES>) {
+        self.put_pairs(free);
+        self.rest.fill(0);
+    }
+}
+
 /// Writes header, file entries, free pairs, and zero bytes to the end.
 pub fn store(cat: &mut [u8], table: &Table) {
-    let mut fields = Fields { rest: cat };
-    fields.put(VERSION);
-    fields.put(table.blocks);
-    fields.put(table.files().len() as u32);
+    let mut fields = Fields::of_catalogue(cat, table.blocks, table.files().len());
     for entry in table.files() {
         fields.put(entry.id);
         fields.put(entry.pieces.blocks());
@@ -37,6 +51,10 @@ pub fn store(cat: &mut [u8], table: &Table) {
         pieces.sort_by_first();
         fields.put_pairs(&pieces);
     }
-    fields.put_pairs(&table.free);
-    fields.rest.fill(0);
+    fields.end_with(&table.free);
+}
+
+/// Writes the catalogue of a disk with no file.
+pub fn store_fresh(cat: &mut [u8], blocks: u32) {
+    Fields::of_catalogue(cat, blocks, 0).end_with(&Table::fresh_pieces(blocks));
 }

@@ -27,15 +27,15 @@ impl Table {
         Table { blocks, count: 0, files: [blank; MOST_FILES], free: FreePieces::NONE }
     }
 
-    /// The table of a fresh disk: free pieces for the ones of C, longest first from block 0.
-    pub fn fresh(blocks: u32) -> Table {
-        let mut table = Table::of_blocks(blocks);
+    /// The free pieces of a fresh disk: one for each 1 of C, longest first from block 0.
+    pub fn fresh_pieces(blocks: u32) -> FreePieces {
+        let mut free = FreePieces::NONE;
         let mut first = 0;
         for height in (0..=MOST_HEIGHT).rev().filter(|height| blocks >> height & 1 == 1) {
-            table.free.push(Section { first, height });
+            free.push(Section { first, height });
             first += 1 << height;
         }
-        table
+        free
     }
 
     pub fn files(&self) -> &[Entry] {

@@ -47,7 +47,8 @@ returns-3 c =
     let f = b .before .before in
     let a = f .before .before .before .before .before in
     made-as (c .kept3 .ensures)
-    (remove-missing (a .args .t) (a .pre) (a .args .id) (a .args .disk .now) (f .before .before .if1 .left) (f .before .if2 .left)
+    (remove-missing (a .args .t) (a .pre) (a .args .id) (a .args .disk .now) (f .before .before .if1 .left)
+    (f .before .if2 .left)
     (f .find .result) (f .find .ensures .place) (b .if3 .taken))
 
 release-requires : tie.Need-release-requires
@@ -73,7 +74,8 @@ settle-requires : tie.Need-settle-requires
 settle-requires c κs =
     let b = c .before .before .before .before in
     let a = b .before .before .before .before .before in
-    remove-can-settle (a .args .t) (a .pre) (a .args .id) (a .args .disk .now) (b .before .before .if1 .left) (b .before .if2 .left)
+    remove-can-settle (a .args .t) (a .pre) (a .args .id) (a .args .disk .now) (b .before .before .if1 .left)
+    (b .before .if2 .left)
     (b .find .result) (b .find .ensures .place) (c .before .before .if3 .left)
     (c .before .release .result) (c .before .release .ensures)
 
@@ -85,7 +87,8 @@ returns-4 c =
     let s = c .before .before .before in
     let b = s .before .before .before .before .before in
     let a = b .before .before .before .before .before in
-    remove-makes (a .args .t) (a .pre) (a .args .id) (a .args .disk .now) (b .before .before .if1 .left) (b .before .if2 .left)
+    remove-makes (a .args .t) (a .pre) (a .args .id) (a .args .disk .now) (b .before .before .if1 .left)
+    (b .before .if2 .left)
     (b .find .result) (b .find .ensures .place) (s .before .before .before .if3 .left)
     (s .before .before .release .result) (s .before .before .release .ensures) _
     (s .settle .result) (s .settle .ensures)

@@ -122,8 +122,8 @@ clear-requires c κs =
     let k = files-count t (s .pre .1 .0) n in
     let q : l .i ≡ t .count = omega arith in
     let w = rw q at (l .inv .2) in
-    end-room (layoutOf t) (t .count) k (s .pre .1 .1) (s .args .cat .now) (s .pre .0) (h .last .0) (h .result) (h .ensures)
-    (l .cat) (l .next) w (f .last .0) (f .result) (f .ensures)
+    end-room (layoutOf t) (t .count) k (s .pre .1 .1) (s .args .cat .now) (s .pre .0) (h .last .0)
+    (h .result) (h .ensures) (l .cat) (l .next) w (f .last .0) (f .result) (f .ensures)
 
 same-length : tie.Need-same-length Inv-loop μ-loop
 same-length c = search needs
@@ -142,8 +142,8 @@ returns c =
     let k = files-count t (s .pre .1 .0) n in
     let q : l .i ≡ t .count = omega arith in
     let w = rw q at (l .inv .2) in
-    stored (layoutOf t) (t .count) k (s .pre .1 .1) (s .args .cat .now) (s .pre .0) (h .last .0) (h .result) (h .ensures)
-    (l .cat) (l .next) w (f .last .0) (f .result) (f .ensures) (z .last .0) (z .ensures)
+    stored (layoutOf t) (t .count) k (s .pre .1 .1) (s .args .cat .now) (s .pre .0) (h .last .0)
+    (h .result) (h .ensures) (l .cat) (l .next) w (f .last .0) (f .result) (f .ensures) (z .last .0) (z .ensures)
 
 pub store-spec : {M : Type 1} → statement M
 store-spec =

@@ -50,7 +50,8 @@ returns c =
       most = omega arith;
       place =
           sym (place-here (liesIn (a .args .from)) (a .args .t1 .items) (a .args .t1 .count)
-          (c .before .before .before .before .loop .place) (section 0 0) (omega arith) lt (sym (c .before .is-inside .ensures) ∙ c .if1 .taken))
+          (c .before .before .before .before .loop .place) (section 0 0) (omega arith) lt
+          (sym (c .before .is-inside .ensures) ∙ c .if1 .taken))
           ∙ v .4;
     }
 
@@ -70,7 +71,8 @@ loop-again c =
       v .2,
       omega arith,
       place-on (liesIn (a .args .from)) (a .args .t1 .items) (a .args .t1 .count)
-          (c .before .before .before .before .loop .place) (section 0 0) (omega arith) lt (sym (c .before .is-inside .ensures) ∙ c .if1 .left)
+          (c .before .before .before .before .loop .place) (section 0 0) (omega arith) lt
+          (sym (c .before .is-inside .ensures) ∙ c .if1 .left)
           ∙ v .4,
     )
 

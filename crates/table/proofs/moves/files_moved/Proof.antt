@@ -44,7 +44,8 @@ place-inside-requires c κs =
       (
         a .pre .1 .from,
         subst PiecesServed e
-            (each-taken {P = PiecesServed} (a .args .files) (a .args .m) i noEntry (omega arith) (a .pre .1 .pieces) lt),
+            (each-taken {P = PiecesServed} (a .args .files) (a .args .m) i noEntry (omega arith)
+            (a .pre .1 .pieces) lt),
       ),
     )
 
@@ -61,7 +62,8 @@ moved-requires c κs =
         from = a .pre .1 .from;
         to = a .pre .1 .to;
         pieces = subst PiecesServed e
-            (each-taken {P = PiecesServed} (a .args .files) (a .args .m) i noEntry (omega arith) (a .pre .1 .pieces) lt);
+            (each-taken {P = PiecesServed} (a .args .files) (a .args .m) i noEntry (omega arith)
+            (a .pre .1 .pieces) lt);
       },
     )
 

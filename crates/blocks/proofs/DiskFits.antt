@@ -11,7 +11,8 @@ use Rattle.section.proofs.Lengths.{pow-lt-inv}
 use Rattle.section.specs.Limits.{blockSize, greatestDisk, greatestHeight}
 use Rattle.section.specs.Sections.{buddyOf, endOf}
 use Rattle.section.specs.declared.Section.{Section}
-use Rattle.table.specs.Tables.{piecePlaces, piecesIn}
+use Rattle.free_pieces.specs.Free.{piecePlaces}
+use Rattle.table.specs.Tables.{piecesIn}
 use Rattle.table.specs.declared.Entry.{Entry}
 
 height-fits : (c : ℕ) (s : Section) → c ≤ greatestDisk → OnDisk c s → s .height .value ≤ greatestHeight

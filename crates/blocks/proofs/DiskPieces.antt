@@ -13,9 +13,10 @@ use Rattle.layout.specs.Lists.{Each, done, more}
 use Rattle.section.specs.Limits.{blockSize, greatestDisk}
 use Rattle.section.specs.Sections.{endOf, lengthOf, section}
 use Rattle.section.specs.declared.Section.{Section}
-use Rattle.table.proofs.Arrays.{ahead, behind}
-use Rattle.table.proofs.EachItem.{each-get, each-taken}
-use Rattle.table.specs.Tables.{piecePlaces, piecesIn}
+use Rattle.free_pieces.proofs.Arrays.{ahead, behind}
+use Rattle.free_pieces.proofs.EachItem.{each-get, each-taken}
+use Rattle.free_pieces.specs.Free.{piecePlaces}
+use Rattle.table.specs.Tables.{piecesIn}
 use Rattle.table.specs.declared.Entry.{Entry}
 
 -- a section with nothing in it, where a list has to have one

@@ -12,9 +12,9 @@ use Rattle.layout.specs.Layout.{digit, piecesFrom}
 use Rattle.section.specs.Limits.{greatestDisk, greatestHeight}
 use Rattle.section.specs.Sections.{section}
 use Rattle.section.specs.declared.Section.{Section}
-use Rattle.table.proofs.PiecesLaid.{pushed}
-use Rattle.table.specs.Tables.{freeOf}
-use Rattle.table.specs.declared.Free.{Free}
+use Rattle.free_pieces.proofs.PiecesLaid.{pushed}
+use Rattle.free_pieces.specs.Free.{freeOf}
+use Rattle.free_pieces.specs.declared.Free.{Free}
 
 -- ---- one height
 

@@ -20,11 +20,12 @@ use Rattle.manager.proofs.Contents.{paged-length}
 use Rattle.manager.specs.Disk.{cutPages, pageCount, writePages}
 use Rattle.section.specs.Limits.{blockSize, greatestHeight, mostFiles}
 use Rattle.section.specs.declared.Section.{Section}
-use Rattle.table.specs.Allocating.{Allots, allocatedOf, laidPieces}
+use Rattle.free_pieces.specs.Allocating.{Allots, allocatedOf, laidPieces}
 use Rattle.table.specs.Files.{Adds}
-use Rattle.table.specs.Tables.{filesOf, freeOf, layoutOf, piecesIn}
+use Rattle.free_pieces.specs.Free.{freeOf}
+use Rattle.table.specs.Tables.{filesOf, layoutOf, piecesIn}
 use Rattle.table.specs.declared.Entry.{Entry}
-use Rattle.table.specs.declared.Laid.{Laid}
+use Rattle.free_pieces.specs.declared.Laid.{Laid}
 use Rattle.table.specs.declared.Table.{Table}
 
 laid-is : (p : Laid) (s r : List Section) → allocatedOf p ≡ allocated s r

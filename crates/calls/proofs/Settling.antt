@@ -22,10 +22,10 @@ use Rattle.section.specs.Limits.{blockSize, greatestDisk}
 use Rattle.table.proofs.NextPair.{merge-due, merge-settled}
 use Rattle.table.proofs.ReadyPairs.{Fits, due-fits, merge-ready}
 use Rattle.table.proofs.TableSteps.{table-merged-whole}
-use Rattle.table.specs.Free.{Pairs, lowestPair}
+use Rattle.free_pieces.specs.Free.{Pairs, freeOf, freePlaces, lowestPair}
 use Rattle.table.specs.Merges.{Merged, Ready}
-use Rattle.table.specs.Tables.{Sized, freeOf, freePlaces, layoutOf}
-use Rattle.table.specs.declared.Pair.{Pair}
+use Rattle.table.specs.Tables.{Sized, layoutOf}
+use Rattle.free_pieces.specs.declared.Pair.{Pair}
 use Rattle.table.specs.declared.Table.{Table}
 
 copies-append : (a b : List Merge) → copiesOf (a ++ b) ≡ copiesOf a ++ copiesOf b

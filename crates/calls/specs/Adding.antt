@@ -11,7 +11,8 @@ use Rattle.layout.specs.Sound.{Sound, greatestId}
 use Rattle.manager.specs.Conditions.{unpaged}
 use Rattle.manager.specs.Disk.{cutPages, pageCount, writePages}
 use Rattle.table.specs.declared.Table.{Table}
-use Rattle.table.specs.Tables.{Sized, filesOf, freeOf, layoutOf}
+use Rattle.free_pieces.specs.Free.{freeOf}
+use Rattle.table.specs.Tables.{Sized, filesOf, layoutOf}
 use Rattle.looking.specs.Opened.{Opened}
 
 -- no condition refuses the add of the content bs as id i on a disk of k bytes, and n is the number of its pages

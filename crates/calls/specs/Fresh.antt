@@ -5,8 +5,8 @@ use Prim.Native.Nat.{ℕ, suc, _-_, _%_, _^_, _≤_}
 use Rattle.section.specs.declared.Section.{Section}
 use Rattle.section.specs.Limits.{greatestHeight}
 use Rattle.layout.specs.Layout.{piecesFrom}
-use Rattle.table.specs.declared.Free.{Free}
-use Rattle.table.specs.Tables.{freeOf, piecePlaces}
+use Rattle.free_pieces.specs.declared.Free.{Free}
+use Rattle.free_pieces.specs.Free.{freeOf, piecePlaces}
 
 -- the pieces so far, and those for the ones of c below height h, which start where the higher ones end
 unfoldable pub piecesWith : ℕ → ℕ → Free → List Section

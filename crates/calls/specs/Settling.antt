@@ -8,7 +8,8 @@ use Rattle.layout.specs.Removing.{Merge, copiesOf, layoutAfter, mergeAll}
 use Rattle.layout.proofs.MergeKeeps.{Whole}
 use Rattle.manager.specs.Disk.{runCopies}
 use Rattle.table.specs.declared.Table.{Table}
-use Rattle.table.specs.Tables.{Sized, freeOf, layoutOf}
+use Rattle.free_pieces.specs.Free.{freeOf}
+use Rattle.table.specs.Tables.{Sized, layoutOf}
 use Rattle.calls.specs.declared.Settled.{Settled}
 
 -- the merges of a table's layout, to the end

@@ -18,7 +18,7 @@ fn place_file(disk: &mut [u8], t: Table, id: u32, n: u32, content: &[u8]) -> Tab
     ensures { λ r. ⌜ Places t id (now (content .entry)) (now (disk .entry)) (now (disk .exit)) r ⌝ }
 {
     let free = t.free;
-    let laid = table::allocate(free, n);
+    let laid = free_pieces::allocate(free, n);
     let items = laid.items;
     let e = Entry {
         id,

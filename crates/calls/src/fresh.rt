@@ -2,9 +2,9 @@
 ghost use Prim.Native.Nat.{_≤_};
 ghost use Rattle.section.specs.Limits.{greatestDisk};
 ghost use Rattle.calls.specs.Fresh.{FreeFor};
+use free_pieces::Free;
 use section::Height;
 use section::Section;
-use table::Free;
 
 // A free piece for each 1 of `blocks`, from the highest down: each starts where the higher ones end.
 pub fn fresh_free(blocks: u32) -> Free

@@ -21,7 +21,8 @@ use Rattle.layout.specs.Layout.{File, blockCount, byLength}
 use Rattle.section.proofs.Nested.{inside}
 use Rattle.section.specs.Sections.{lengthOf}
 use Rattle.section.specs.declared.Section.{Section}
-use Rattle.table.specs.Tables.{fileOf, freeOf}
+use Rattle.free_pieces.specs.Free.{freeOf}
+use Rattle.table.specs.Tables.{fileOf}
 use Rattle.table.specs.declared.Entry.{Entry}
 
 entry-of-few : (l : List ℕ) → length l < 4 → readEntry (version1 .heights) 2 l ≡ bad

@@ -19,7 +19,7 @@ use Rattle.layout.specs.Lists.{sumOf}
 use Rattle.section.proofs.Nested.{inside}
 use Rattle.section.specs.Limits.{greatestDisk}
 use Rattle.section.specs.declared.Section.{Section}
-use Rattle.table.specs.Tables.{freeOf}
+use Rattle.free_pieces.specs.Free.{freeOf}
 
 pub pushed {ℓ} : {A : Type ℓ} (p : List A) (m : ℕ) (a : A) → m < length p
     → take (m + 1) (set p m a) ≡ take m p ++ (a ∷ [])

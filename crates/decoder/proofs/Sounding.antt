@@ -28,7 +28,8 @@ use Rattle.section.proofs.Booleans.{and-true, false-and}
 use Rattle.section.specs.Limits.{mostFiles}
 use Rattle.section.specs.Sections.{Addressable, lengthOf}
 use Rattle.section.specs.declared.Section.{Section}
-use Rattle.table.specs.Tables.{filesOf, freeOf, layoutOf, piecePlaces}
+use Rattle.free_pieces.specs.Free.{freeOf, piecePlaces}
+use Rattle.table.specs.Tables.{filesOf, layoutOf}
 use Rattle.table.specs.declared.Table.{Table}
 
 -- ---- the test of soundness, in its parts

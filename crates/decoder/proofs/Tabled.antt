@@ -23,7 +23,8 @@ use Rattle.layout.proofs.MergeAll.{rest}
 use Rattle.layout.specs.Layout.{File, fileBlocks}
 use Rattle.layout.specs.Lists.{sumOf}
 use Rattle.section.proofs.Nested.{inside}
-use Rattle.table.specs.Tables.{fileOf, filesOf, freeOf, layoutOf}
+use Rattle.free_pieces.specs.Free.{freeOf}
+use Rattle.table.specs.Tables.{fileOf, filesOf, layoutOf}
 use Rattle.table.specs.declared.Table.{Table}
 
 pub unread-at : (s : List ℕ) (t : TableRead) → readCatalogue version1 s ≡ unsound

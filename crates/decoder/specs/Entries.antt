@@ -9,7 +9,8 @@ use Rattle.section.specs.declared.Section.{Section}
 use Rattle.section.specs.Limits.{mostFiles}
 use Rattle.layout.specs.Lists.{Each, sumOf}
 use Rattle.layout.specs.Layout.{File, blockCount, fileBlocks}
-use Rattle.table.specs.Tables.{InPlaces, fileOf, piecePlaces, piecesIn}
+use Rattle.free_pieces.specs.Free.{piecePlaces}
+use Rattle.table.specs.Tables.{InPlaces, fileOf, piecesIn}
 use Rattle.catalogue.specs.Version.{version1}
 use Rattle.catalogue.specs.Reading.{Read, got, bad, every, soundFile, readEntry, readEntries}
 use Rattle.decoder.specs.Fields.{fieldBytes, fieldValues}

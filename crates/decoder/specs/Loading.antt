@@ -9,7 +9,8 @@ use Rattle.section.specs.Limits.{mostFiles}
 use Rattle.layout.specs.Lists.{sumOf}
 use Rattle.layout.specs.Layout.{blockCount, fileBlocks, freeBlocks}
 use Rattle.table.specs.declared.Table.{Table}
-use Rattle.table.specs.Tables.{Sized, filesOf, freeOf, layoutOf, piecePlaces}
+use Rattle.free_pieces.specs.Free.{freeOf, piecePlaces}
+use Rattle.table.specs.Tables.{Sized, filesOf, layoutOf}
 use Rattle.catalogue.specs.Version.{version1}
 use Rattle.catalogue.specs.Reading.{got, every, soundFile, readLayout, Reading, sound, unsound, readCatalogue}
 use Rattle.decoder.specs.declared.TableRead.{TableRead}

@@ -6,13 +6,13 @@ use crate::fields::read_pairs;
 use crate::pieces::in_order;
 use crate::pieces::no_entry;
 use crate::pieces::sorted;
-use table::Free;
+use free_pieces::Free;
 ghost use mathlib.Core.Path.{_≡_};
 ghost use Prim.Native.Nat.{_≤_};
 ghost use lib.ListN.{length};
 ghost use Rattle.section.specs.Limits.{catalogueSize, mostFiles};
 ghost use Rattle.layout.specs.Layout.{blockCount};
-ghost use Rattle.table.specs.Tables.{freeOf, freePlaces};
+ghost use Rattle.free_pieces.specs.Free.{freeOf, freePlaces};
 ghost use Rattle.decoder.specs.Entries.{EntryAt, FilesAt, NoFile, NoFiles, isFile};
 
 // Whether the pairs of a list, which sum to `sum`, make a file of an id and n blocks.

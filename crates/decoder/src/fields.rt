@@ -1,10 +1,10 @@
 // Fields of two bytes and pairs of fields, read at a place of the catalogue.
 use crate::PairRead;
 use crate::PairsRead;
+use free_pieces::Free;
 use section::Height;
 use section::Measured;
 use section::Section;
-use table::Free;
 ghost use mathlib.Core.Path.{_≡_};
 ghost use mathlib.Core.Bool.{true, false};
 ghost use Prim.Native.Nat.{_+_, _<_, _≤_};

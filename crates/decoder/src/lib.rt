@@ -1,9 +1,9 @@
 // The bytes of a catalogue: a table is read from them, and refused unless it is sound.
 use checks::is_sound;
 use checks::is_zero_from;
+use free_pieces::Free;
 use section::Section;
 use table::Entry;
-use table::Free;
 use table::Table;
 use tables::no_table;
 use tables::read_table;

@@ -5,7 +5,7 @@ use crate::fields::no_section;
 use crate::fields::read_field;
 use crate::fields::read_pairs;
 use crate::pieces::no_entry;
-use table::Free;
+use free_pieces::Free;
 use table::Table;
 ghost use mathlib.Core.Path.{_≡_};
 ghost use mathlib.Core.Bool.{true, false};

@@ -1,8 +1,8 @@
 // A table stored as the bytes of a catalogue, front to back: each function writes its bytes from `at` on and answers
 // the position after them, and `clear` writes the zero bytes after the last.
+use free_pieces::Free;
 use section::Section;
 use table::Entry;
-use table::Free;
 use table::Table;
 ghost use mathlib.Core.List.{_++_};
 ghost use mathlib.Core.Path.{_≡_};
@@ -12,7 +12,8 @@ ghost use Rattle.section.specs.Heights.{NoHigher};
 ghost use Rattle.section.specs.Limits.{catalogueSize};
 ghost use Rattle.layout.specs.Lists.{Each};
 ghost use Rattle.layout.specs.Sound.{Sound};
-ghost use Rattle.table.specs.Tables.{Sized, fileOf, freeOf, freePlaces, layoutOf};
+ghost use Rattle.free_pieces.specs.Free.{freeOf, freePlaces};
+ghost use Rattle.table.specs.Tables.{Sized, fileOf, layoutOf};
 ghost use Rattle.catalogue.specs.Encoding.{bigEndian, encode, entryBytes, pairBytes, pairsBytes};
 ghost use Rattle.catalogue.specs.Version.{version1};
 ghost use Rattle.pieces.specs.Pieces.{Low, LowEntry};

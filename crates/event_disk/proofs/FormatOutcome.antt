@@ -21,8 +21,8 @@ use Rattle.manager.specs.Conditions.{outcome, refusal, refused, unlessRefused, 
 use Rattle.manager.specs.Disk.{pageCount}
 use Rattle.manager.specs.Outcomes.{formatOutcome}
 use Rattle.section.specs.Limits.{blockSize, catalogueSize, greatestDisk}
-use Rattle.table.specs.Tables.{freeOf}
-use Rattle.table.specs.declared.Free.{Free}
+use Rattle.free_pieces.specs.Free.{freeOf}
+use Rattle.free_pieces.specs.declared.Free.{Free}
 
 module _ (cat d : List ℕ) where
   abbrev formatted : Outcome

@@ -9,8 +9,9 @@ use Rattle.layout.proofs.Soundness.{sound-sums}
 use Rattle.layout.specs.Layout.{blockCount, freeBlocks}
 use Rattle.section.specs.Limits.{greatestDisk}
 use Rattle.table.proofs.SoundStock.{sound-stocked}
-use Rattle.table.specs.Tables.{freeOf, layoutOf}
-use Rattle.table.specs.Taking.{Stocked}
+use Rattle.free_pieces.specs.Free.{freeOf}
+use Rattle.table.specs.Tables.{layoutOf}
+use Rattle.free_pieces.specs.Taking.{Stocked}
 use Rattle.table.specs.declared.Table.{Table}
 
 module _ (t : Table) (o : Opened t) where

@@ -9,7 +9,8 @@ use Rattle.layout.specs.Sound.{Sound}
 use Rattle.manager.specs.Conditions.{Outcome, condition, firstRefusal, readChecks, unlessRefused, wrongDisk}
 use Rattle.manager.specs.Outcomes.{readFound}
 use Rattle.table.specs.declared.Table.{Table}
-use Rattle.table.specs.Tables.{Sized, filesOf, freeOf, layoutOf}
+use Rattle.free_pieces.specs.Free.{freeOf}
+use Rattle.table.specs.Tables.{Sized, filesOf, layoutOf}
 
 -- a sound table: the lists are as long as their counts say
 pub record Opened (t : Table) : Type 0 where

@@ -2,7 +2,8 @@
 ghost use mathlib.Core.Path.{_≡_};
 ghost use Prim.Native.Nat.{_≤_};
 ghost use Rattle.layout.specs.Layout.{blockCount, breaksOf, findFile};
-ghost use Rattle.table.specs.Tables.{layoutOf, piecePlaces, piecesIn};
+ghost use Rattle.free_pieces.specs.Free.{piecePlaces};
+ghost use Rattle.table.specs.Tables.{layoutOf, piecesIn};
 ghost use Rattle.manager.specs.Conditions.{fileChecks, firstRefusal, replyUnless};
 ghost use Rattle.manager.specs.Outcomes.{breaksFound};
 ghost use Rattle.looking.specs.Answers.{replyOf};

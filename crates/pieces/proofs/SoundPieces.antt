@@ -8,8 +8,9 @@ use Rattle.layout.proofs.Lists.{each-and, each-imp, each-left, each-right, each
 use Rattle.layout.specs.Layout.{File, filePieces}
 use Rattle.layout.specs.Lists.{Each, done, more}
 use Rattle.layout.specs.Sound.{Sound}
-use Rattle.table.proofs.EachItem.{each-take}
-use Rattle.table.specs.Tables.{Sized, fileOf, filesOf, freeOf, layoutOf}
+use Rattle.free_pieces.proofs.EachItem.{each-take}
+use Rattle.free_pieces.specs.Free.{freeOf}
+use Rattle.table.specs.Tables.{Sized, fileOf, filesOf, layoutOf}
 use Rattle.table.specs.declared.Entry.{Entry}
 use Rattle.table.specs.declared.Table.{Table}
 use Rattle.pieces.specs.Pieces.{Low, LowFiles}

@@ -1,11 +1,5 @@
--- Laws of the code's lists, and the proofs of the functions.
-pub mod Arrays
-pub mod Draws
-pub mod Fewer
-pub mod PieceTaken
-pub mod PiecesLaid
+-- Laws of tables, and the proofs of the functions.
 pub mod SoundStock
-pub mod EachItem
 pub mod MapFirst
 pub mod FileLists
 pub mod FreeLists

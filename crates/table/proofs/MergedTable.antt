@@ -11,9 +11,10 @@ use Rattle.section.specs.declared.Section.{Section}
 use Rattle.table.proofs.FileLists.{files-after}
 use Rattle.table.proofs.MapFirst.{each-mapFirst}
 use Rattle.table.specs.Moves.{mapFirst, movedEntry}
-use Rattle.table.specs.Tables.{InPlaces, fileOf, filesOf, freeOf, layoutOf}
+use Rattle.free_pieces.specs.Free.{freeOf}
+use Rattle.table.specs.Tables.{InPlaces, fileOf, filesOf, layoutOf}
 use Rattle.table.specs.declared.Entry.{Entry}
-use Rattle.table.specs.declared.Pair.{Pair}
+use Rattle.free_pieces.specs.declared.Pair.{Pair}
 use Rattle.table.specs.declared.Table.{Table}
 
 pub layout-merged : (t r : Table) (p : Pair) (b w : Section) → r .count ≡ t .count → r .blocks ≡ t .blocks

@@ -9,9 +9,9 @@ use Rattle.layout.proofs.Taking.{Rising}
 use Rattle.layout.specs.Layout.{Layout}
 use Rattle.layout.specs.Removing.{MergePair, Next, due, fewer, merge, mergePair, nextMerge, pair, settled}
 use Rattle.section.specs.declared.Section.{Section}
-use Rattle.table.specs.Free.{Pairs, lowestPair, pairOf}
-use Rattle.table.specs.Tables.{freeOf, layoutOf}
-use Rattle.table.specs.declared.Pair.{Pair}
+use Rattle.free_pieces.specs.Free.{Pairs, freeOf, lowestPair, pairOf}
+use Rattle.table.specs.Tables.{layoutOf}
+use Rattle.free_pieces.specs.declared.Pair.{Pair}
 use Rattle.table.specs.declared.Table.{Table}
 
 -- the merge of a pair, if there is one

@@ -23,10 +23,10 @@ use Rattle.section.specs.Limits.{greatestDisk}
 use Rattle.section.specs.Sections.{Addressable, buddyOf, section}
 use Rattle.section.specs.declared.Section.{Section}
 use Rattle.table.proofs.NextPair.{DueOf, due-is, pair-found}
-use Rattle.table.specs.Free.{Pairs, lowestPair}
+use Rattle.free_pieces.specs.Free.{Pairs, freeOf, lowestPair}
 use Rattle.table.specs.Merges.{Ready}
-use Rattle.table.specs.Tables.{Sized, fileOf, filesOf, freeOf, layoutOf}
-use Rattle.table.specs.declared.Pair.{Pair}
+use Rattle.table.specs.Tables.{Sized, fileOf, filesOf, layoutOf}
+use Rattle.free_pieces.specs.declared.Pair.{Pair}
 use Rattle.table.specs.declared.Table.{Table}
 
 -- a section of such a disk is served

@@ -10,8 +10,9 @@ use Rattle.layout.specs.Layout.{OnDisk, filePieces}
 use Rattle.layout.specs.Sound.{Sound}
 use Rattle.section.specs.Limits.{greatestDisk, greatestHeight}
 use Rattle.section.specs.declared.Section.{Section}
-use Rattle.table.specs.Tables.{filesOf, freeOf, freePlaces, layoutOf}
-use Rattle.table.specs.Taking.{Stocked}
+use Rattle.free_pieces.specs.Free.{freeOf, freePlaces}
+use Rattle.table.specs.Tables.{filesOf, layoutOf}
+use Rattle.free_pieces.specs.Taking.{Stocked}
 use Rattle.table.specs.declared.Table.{Table}
 
 module _ (t : Table) (g : SoundSums (suc greatestHeight) (layoutOf t)) (most : t .free .count ≤ freePlaces)

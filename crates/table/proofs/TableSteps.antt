@@ -14,9 +14,10 @@ use Rattle.table.proofs.ReadyPairs.{Fits}
 use Rattle.table.proofs.Released.{find-at}
 use Rattle.table.specs.Files.{entryAt, hasId}
 use Rattle.table.specs.Merges.{Merged, Released}
-use Rattle.table.specs.Places.{firstPlace}
-use Rattle.table.specs.Tables.{fileOf, filesOf, freeOf, layoutOf, piecePlaces}
-use Rattle.table.specs.declared.Pair.{Pair}
+use Rattle.free_pieces.specs.Places.{firstPlace}
+use Rattle.free_pieces.specs.Free.{freeOf, piecePlaces}
+use Rattle.table.specs.Tables.{fileOf, filesOf, layoutOf}
+use Rattle.free_pieces.specs.declared.Pair.{Pair}
 use Rattle.table.specs.declared.Table.{Table}
 
 module _ (t : Table) (g : SoundSums 13 (layoutOf t)) where

@@ -8,10 +8,11 @@ use lib.ListN.{getD, take}
 use Rattle.layout.specs.Adding.{withFile}
 use Rattle.layout.specs.Layout.{File}
 use Rattle.layout.specs.Lists.{Each}
-use Rattle.table.specs.Places.{withAt, withoutAt}
-use Rattle.table.specs.Tables.{InPlaces, Sized, freeOf, layoutOf, piecesIn}
+use Rattle.free_pieces.specs.Places.{withAt, withoutAt}
+use Rattle.free_pieces.specs.Free.{freeOf}
+use Rattle.table.specs.Tables.{InPlaces, Sized, layoutOf, piecesIn}
 use Rattle.table.specs.declared.Entry.{Entry}
-use Rattle.table.specs.declared.Free.{Free}
+use Rattle.free_pieces.specs.declared.Free.{Free}
 use Rattle.table.specs.declared.Table.{Table}
 
 abbrev pub hasId : ℕ → File → Bool

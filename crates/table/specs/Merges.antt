@@ -7,8 +7,9 @@ use Rattle.layout.specs.Removing.{merge, release}
 use Rattle.section.specs.Sections.{Addressable, buddyOf}
 use Rattle.table.specs.Files.{entryAt}
 use Rattle.table.specs.Moves.{PiecesServed}
-use Rattle.table.specs.Tables.{Sized, fileOf, freeOf, freePlaces, layoutOf}
-use Rattle.table.specs.declared.Pair.{Pair}
+use Rattle.free_pieces.specs.Free.{freeOf, freePlaces}
+use Rattle.table.specs.Tables.{Sized, fileOf, layoutOf}
+use Rattle.free_pieces.specs.declared.Pair.{Pair}
 use Rattle.table.specs.declared.Table.{Table}
 
 -- r is the table t when the file at place i is gone and its pieces are free

@@ -1,26 +1,15 @@
--- What the values of the code stand for: lists of sections, files and layouts. Definitions only.
+-- What a table stands for: a layout, its files by rising id. Definitions only.
 use mathlib.Core.Path.{_≡_}
 use mathlib.Core.List.{List, map}
 use Prim.Native.Nat.{ℕ, _≤_}
-use lib.ListN.{length, take}
+use lib.ListN.{take}
 use Rattle.section.specs.declared.Section.{Section}
 use Rattle.section.specs.Limits.{mostFiles}
 use Rattle.layout.specs.Layout.{File, Layout}
 use Rattle.layout.specs.Lists.{Each}
+use Rattle.free_pieces.specs.Free.{freeOf, freePlaces, piecePlaces}
 use Rattle.table.specs.declared.Entry.{Entry}
-use Rattle.table.specs.declared.Free.{Free}
 use Rattle.table.specs.declared.Table.{Table}
-
--- the places of the arrays
-abbrev pub freePlaces : ℕ
-freePlaces = 26
-
-abbrev pub piecePlaces : ℕ
-piecePlaces = 13
-
--- the free pieces
-unfoldable pub freeOf : Free → List Section
-freeOf f = take (f .count) (f .items)
 
 -- the pieces of a file
 abbrev pub piecesIn : Entry → List Section

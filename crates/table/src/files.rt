@@ -3,12 +3,13 @@ ghost use mathlib.Core.Path.{_≡_};
 ghost use Prim.Native.Nat.{ℕ, _+_, _<_, _≤_};
 ghost use lib.ListN.{take};
 ghost use Rattle.section.specs.Limits.{mostFiles};
-ghost use Rattle.table.specs.Places.{IsPlace, firstPlace};
-ghost use Rattle.table.specs.Tables.{InPlaces, Sized, filesOf, freePlaces};
+ghost use Rattle.free_pieces.specs.Places.{IsPlace, firstPlace};
+ghost use Rattle.free_pieces.specs.Free.{freePlaces};
+ghost use Rattle.table.specs.Tables.{InPlaces, Sized, filesOf};
 ghost use Rattle.table.specs.Files.{Adds, CutFiles, PutFiles, hasId, noLowerId};
 use crate::Entry;
-use crate::Free;
 use crate::Table;
+use free_pieces::Free;
 
 // The first `m` files without the one at place `i`.
 pub fn files_cut(files: [Entry; 64], m: usize, i: usize) -> [Entry; 64]

@@ -3,7 +3,7 @@ ghost use mathlib.Core.Path.{_≡_};
 ghost use Prim.Native.Nat.{ℕ, _≤_};
 ghost use Rattle.section.specs.Limits.{mostFiles};
 ghost use Rattle.section.specs.Sections.{Addressable};
-ghost use Rattle.table.specs.Places.{IsPlace, firstPlace};
+ghost use Rattle.free_pieces.specs.Places.{IsPlace, firstPlace};
 ghost use Rattle.table.specs.Tables.{InPlaces, piecesIn};
 ghost use Rattle.table.specs.Moves.{CanMove, CanMoveFiles, PiecesServed, liesIn, mapFirst, movedEntry};
 use crate::Entry;

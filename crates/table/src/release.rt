@@ -2,18 +2,18 @@
 ghost use mathlib.Core.Path.{_≡_};
 ghost use Prim.Native.Nat.{ℕ, _+_, _<_, _≤_};
 ghost use Rattle.layout.specs.Removing.{insertAll};
-ghost use Rattle.table.specs.Places.{firstPlace};
-ghost use Rattle.table.specs.Tables.{InPlaces, Sized, filesOf, freeOf, freePlaces, piecePlaces, piecesIn};
-ghost use Rattle.table.specs.Free.{Lists};
+ghost use Rattle.free_pieces.specs.Places.{firstPlace};
+ghost use Rattle.free_pieces.specs.Free.{freeOf, freePlaces, piecePlaces, Lists};
+ghost use Rattle.table.specs.Tables.{InPlaces, Sized, filesOf, piecesIn};
 ghost use Rattle.table.specs.Files.{entryAt, hasId};
 ghost use Rattle.table.specs.Merges.{Released};
 use crate::Entry;
-use crate::Free;
 use crate::Table;
 use crate::files::files_cut;
+use free_pieces::Free;
 
 // The free pieces with those of a file.
-pub fn free_with(free: Free, e: Entry) -> Free
+fn free_with(free: Free, e: Entry) -> Free
     requires { ⌜ (InPlaces e) × (free .count + e .count ≤ freePlaces) ⌝ }
     ensures { λ r. ⌜ Lists (free .count + e .count) (insertAll (piecesIn e) (freeOf free)) r ⌝ }
 {

@@ -9,8 +9,8 @@ use lib.ListN.{length, length-set}
 use borrow.Author.Needs.{needs}
 use Rattle.section.specs.Limits.{greatestHeight}
 use Rattle.layout.specs.Layout.{piecesFrom}
-use Rattle.table.proofs.Arrays.{length-of-mapped}
-use Rattle.table.specs.Tables.{piecePlaces}
+use Rattle.free_pieces.proofs.Arrays.{length-of-mapped}
+use Rattle.free_pieces.specs.Free.{piecePlaces}
 use Rattle.calls.specs.Fresh.{piecesWith}
 use Rattle.calls.proofs.FreshPieces.{pieces-end, pieces-push, pieces-skip, pieces-start}
 use Rattle.calls.proofs.fresh.fresh_free.Statement.{statement}

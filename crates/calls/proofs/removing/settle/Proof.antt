@@ -5,8 +5,7 @@ use Prim.Native.Nat.{ℕ, _*_}
 use native.Mathlib.Omega.{arith}
 use borrow.Author.Needs.{needs}
 use Rattle.section.specs.Limits.{blockSize}
-use Rattle.table.specs.Free.{Pairs, lowestPair}
-use Rattle.table.specs.Tables.{freeOf}
+use Rattle.free_pieces.specs.Free.{Pairs, freeOf, lowestPair}
 use Rattle.calls.proofs.Settling.{Settling, settling-start, settling-ready, settling-copies, settling-more}
 use Rattle.calls.proofs.Settling.{settling-end}
 use Rattle.calls.proofs.removing.settle.Statement.{statement}

@@ -6,7 +6,7 @@ use borrow.Author.Needs.{needs}
 use lib.Seq.{length-take-le}
 use Rattle.decoder.proofs.Points.{length-of-mapped}
 use Rattle.decoder.proofs.Entering.{many-pieces, no-blocks, no-id, order-left, other-sum}
-use Rattle.table.specs.Tables.{freeOf, freePlaces}
+use Rattle.free_pieces.specs.Free.{freeOf, freePlaces}
 use Rattle.decoder.proofs.entries.is_file.Statement.{statement}
 use Rattle.decoder.proofs.entries.is_file.Tie as tie
 

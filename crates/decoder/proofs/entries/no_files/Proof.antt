@@ -2,7 +2,7 @@
 use mathlib.Core.Path.{refl}
 use native.Mathlib.Omega.{arith}
 use borrow.Author.Needs.{needs}
-use Rattle.table.proofs.EachItem.{each-replicate}
+use Rattle.free_pieces.proofs.EachItem.{each-replicate}
 use Rattle.decoder.proofs.entries.no_files.Statement.{statement}
 use Rattle.decoder.proofs.entries.no_files.Tie as tie
 

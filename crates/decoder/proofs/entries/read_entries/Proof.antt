@@ -9,7 +9,7 @@ use borrow.Author.Tests.{not-true, not-false}
 use Rattle.section.specs.Limits.{catalogueSize, mostFiles}
 use Rattle.layout.specs.Lists.{Each, sumOf}
 use Rattle.layout.specs.Layout.{fileBlocks}
-use Rattle.table.proofs.EachItem.{each-replicate, each-set}
+use Rattle.free_pieces.proofs.EachItem.{each-replicate, each-set}
 use Rattle.table.specs.Tables.{InPlaces}
 use Rattle.decoder.specs.Fields.{fieldValues}
 use Rattle.decoder.specs.Entries.{allAccepted}

@@ -5,7 +5,8 @@ use native.Mathlib.Omega.{arith}
 use lib.ListN.{take}
 use borrow.Author.Needs.{needs}
 use Rattle.layout.specs.Layout.{filePieces}
-use Rattle.table.specs.Tables.{filesOf, freeOf, layoutOf}
+use Rattle.free_pieces.specs.Free.{freeOf}
+use Rattle.table.specs.Tables.{filesOf, layoutOf}
 use Rattle.decoder.specs.Checking.{piecesOf}
 use Rattle.decoder.proofs.EntryRuns.{filesTo}
 use Rattle.decoder.proofs.gather.gathered.Proof.Loops.{Inv-pieces, μ-pieces, Inv-files, μ-files}

@@ -2,7 +2,7 @@
 use mathlib.Core.Path.{_≡_, refl}
 use lib.ListN.{length}
 use borrow.Author.Needs.{needs}
-use Rattle.table.specs.Tables.{piecePlaces}
+use Rattle.free_pieces.specs.Free.{piecePlaces}
 use Rattle.decoder.proofs.Points.{length-of-mapped}
 use Rattle.decoder.proofs.gather.places_of.Statement.{statement}
 use Rattle.decoder.proofs.gather.places_of.Tie as tie

@@ -2,8 +2,9 @@
 use mathlib.Core.Path.{refl}
 use native.Mathlib.Omega.{arith}
 use borrow.Author.Needs.{needs}
-use Rattle.table.proofs.EachItem.{each-replicate}
-use Rattle.table.specs.Tables.{filesOf, freeOf}
+use Rattle.free_pieces.proofs.EachItem.{each-replicate}
+use Rattle.free_pieces.specs.Free.{freeOf}
+use Rattle.table.specs.Tables.{filesOf}
 use Rattle.decoder.proofs.tables.no_table.Statement.{statement}
 use Rattle.decoder.proofs.tables.no_table.Tie as tie
 

@@ -4,9 +4,9 @@ use Prim.Native.Nat.{_-_, _≤_}
 use native.Mathlib.Omega.{arith}
 use lib.ListN.{length, take}
 use borrow.Author.Needs.{needs}
-use Rattle.table.proofs.Arrays.{length-of-mapped}
-use Rattle.table.proofs.EachItem.{each-taken}
-use Rattle.table.specs.Tables.{freeOf}
+use Rattle.free_pieces.proofs.Arrays.{length-of-mapped}
+use Rattle.free_pieces.proofs.EachItem.{each-taken}
+use Rattle.free_pieces.specs.Free.{freeOf}
 use Rattle.catalogue.specs.Encoding.{pairBytes, pairsBytes}
 use Rattle.encoder.specs.Store.{Written}
 use Rattle.encoder.proofs.StoreLists.{list-more, list-none, list-room}

@@ -8,9 +8,9 @@ use borrow.Author.Needs.{needs}
 use Rattle.layout.specs.Layout.{blockCount}
 use Rattle.section.specs.Limits.{greatestDisk}
 use Rattle.section.specs.Sections.{section}
-use Rattle.table.proofs.Arrays.{length-of-mapped}
-use Rattle.table.proofs.EachItem.{each-taken}
-use Rattle.table.specs.Tables.{freeOf, freePlaces}
+use Rattle.free_pieces.proofs.Arrays.{length-of-mapped}
+use Rattle.free_pieces.proofs.EachItem.{each-taken}
+use Rattle.free_pieces.specs.Free.{freeOf, freePlaces}
 use Rattle.pieces.proofs.PieceCounts.{count-end, count-here}
 use Rattle.pieces.proofs.SoundPieces.{free-low}
 use Rattle.pieces.specs.Pieces.{Low}

@@ -4,8 +4,8 @@ use Prim.Native.Nat.{_-_}
 use native.Mathlib.Omega.{arith}
 use lib.ListN.{length}
 use borrow.Author.Needs.{needs}
-use Rattle.table.proofs.Arrays.{length-of-mapped}
-use Rattle.table.proofs.EachItem.{each-get}
+use Rattle.free_pieces.proofs.Arrays.{length-of-mapped}
+use Rattle.free_pieces.proofs.EachItem.{each-get}
 use Rattle.table.proofs.Released.{layout-released}
 use Rattle.table.specs.Files.{noEntry}
 use Rattle.table.specs.Tables.{InPlaces}

@@ -6,10 +6,10 @@ use native.Mathlib.Omega.{arith}
 use lib.ListN.{drop, length, length-set, take}
 use borrow.Author.Needs.{needs}
 use Rattle.layout.specs.Lists.{Each}
-use Rattle.table.proofs.Arrays.{length-of-mapped, withoutAt-end, withoutAt-more, withoutAt-start}
-use Rattle.table.proofs.EachItem.{each-get, each-set}
+use Rattle.free_pieces.proofs.Arrays.{length-of-mapped, withoutAt-end, withoutAt-more, withoutAt-start}
+use Rattle.free_pieces.proofs.EachItem.{each-get, each-set}
 use Rattle.table.specs.Files.{noEntry}
-use Rattle.table.specs.Places.{withoutAt}
+use Rattle.free_pieces.specs.Places.{withoutAt}
 use Rattle.table.specs.Tables.{InPlaces}
 use Rattle.table.proofs.files.files_cut.Statement.{statement}
 use Rattle.table.proofs.files.files_cut.Tie as tie

@@ -5,9 +5,9 @@ use native.Mathlib.Omega.{arith}
 use lib.ListN.{drop, length, take}
 use borrow.Author.Needs.{needs}
 use borrow.Author.Tests.{le-leb, lt-leb}
-use Rattle.table.proofs.Arrays.{length-of-mapped, place-end, place-here, place-on}
+use Rattle.free_pieces.proofs.Arrays.{length-of-mapped, place-end, place-here, place-on}
 use Rattle.table.specs.Files.{noEntry, noLowerId}
-use Rattle.table.specs.Places.{firstPlace}
+use Rattle.free_pieces.specs.Places.{firstPlace}
 use Rattle.table.proofs.files.files_rank.Statement.{statement}
 use Rattle.table.proofs.files.files_rank.Tie as tie
 

@@ -6,8 +6,8 @@ use Prim.Native.Nat.{_+_, _-_, _≤_}
 use native.Mathlib.Omega.{arith}
 use lib.ListN.{getD, length}
 use borrow.Author.Needs.{needs}
-use Rattle.table.proofs.Arrays.{length-of-mapped}
-use Rattle.table.proofs.EachItem.{each-get, each-taken}
+use Rattle.free_pieces.proofs.Arrays.{length-of-mapped}
+use Rattle.free_pieces.proofs.EachItem.{each-get, each-taken}
 use Rattle.table.proofs.MapFirst.{file-stays, mapFirst-at, mapFirst-kept, mapFirst-more, mapFirst-none}
 use Rattle.table.specs.Files.{noEntry}
 use Rattle.table.specs.Moves.{PiecesServed, mapFirst, movedEntry}

@@ -7,9 +7,9 @@ use lib.Seq.{length-take-le}
 use borrow.Author.Needs.{needs}
 use Rattle.layout.specs.Removing.{insertAll}
 use Rattle.section.specs.Sections.{section}
-use Rattle.table.proofs.Arrays.{length-of-mapped}
+use Rattle.free_pieces.proofs.Arrays.{length-of-mapped}
 use Rattle.table.proofs.FreeLists.{all-more, all-none}
-use Rattle.table.specs.Tables.{freeOf}
+use Rattle.free_pieces.specs.Free.{freeOf}
 use Rattle.table.proofs.release.free_with.Statement.{statement}
 use Rattle.table.proofs.release.free_with.Tie as tie
 

@@ -9,7 +9,8 @@ use borrow.Author.Needs.{needs}
 use Rattle.section.specs.Limits.{mostFiles}
 use Rattle.layout.specs.Lists.{Each}
 use Rattle.layout.specs.Layout.{filePieces}
-use Rattle.table.specs.Tables.{InPlaces, freePlaces, piecePlaces}
+use Rattle.free_pieces.specs.Free.{freePlaces, piecePlaces}
+use Rattle.table.specs.Tables.{InPlaces}
 use Rattle.decoder.specs.Checking.{gatheredPlaces}
 use Rattle.decoder.proofs.EntryRuns.{filesTo}
 use Rattle.decoder.proofs.Points.{length-of-mapped}

@@ -1,0 +1,5 @@
+-- What the values of the code stand for, and what the functions promise. Definitions only.
+pub mod Free
+pub mod Places
+pub mod Taking
+pub mod Allocating

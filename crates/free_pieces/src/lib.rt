@@ -1,0 +1,41 @@
+// The free pieces of a layout as a value: one more, one taken, one split, the two to merge, the pieces of a new file.
+//
+// A list is the first `count` items of an array, so each value stands for one list of the definitions.
+use section::Section;
+
+mod allocating;
+mod pairs;
+mod pieces;
+mod taking;
+
+pub use allocating::allocate;
+pub use taking::take_piece;
+
+// The free pieces by rising first block. Between a release and its merges there are more than a sound layout has.
+pub struct Free {
+    pub count: usize,
+    pub items: [Section; 26],
+}
+
+// A piece that was taken and the pieces that are left, if one was found.
+pub struct Drawn {
+    pub found: bool,
+    pub section: Section,
+    pub rest: Free,
+}
+
+// The two free sections to merge and the other free pieces, if a height has two.
+pub struct Pair {
+    pub found: bool,
+    pub lower: Section,
+    pub upper: Section,
+    pub others: Free,
+}
+
+// The pieces of a new file in page order and the free pieces that are left, if there were enough.
+pub struct Laid {
+    pub ok: bool,
+    pub count: usize,
+    pub items: [Section; 13],
+    pub free: Free,
+}

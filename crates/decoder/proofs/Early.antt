@@ -12,7 +12,7 @@ use Rattle.catalogue.proofs.Tests.{and-intro, each-every, every-each, test-soun
 use Rattle.catalogue.specs.Reading.{Read, Reading, bad, every, got, isSound, judged, pairwise, readPairs, sound}
 use Rattle.catalogue.specs.Reading.{soundFile, soundFree, soundPiece, then, unsound}
 use Rattle.catalogue.specs.Version.{version1}
-use Rattle.decoder.proofs.Points.{false-true, is-false}
+use Rattle.soundness.proofs.Points.{false-true, is-false}
 use Rattle.decoder.specs.Entries.{acceptable, allAccepted}
 use Rattle.layout.proofs.Lists.{each-and, each-imp, each-left, each-right}
 use Rattle.layout.specs.Layout.{File, Layout, allPieces, fileBlocks, filePieces}

@@ -13,7 +13,8 @@ use Rattle.decoder.proofs.Files.{file-parts, file-read, file-refused}
 use Rattle.decoder.proofs.Runs.{pairs-bad, pairs-got}
 use Rattle.decoder.specs.Entries.{EntryAt, NoFile, accepted, entryIn, isFile}
 use Rattle.decoder.specs.Fields.{FieldAt, PairsAt}
-use Rattle.decoder.specs.Pieces.{Sorts, inOrder}
+use Rattle.soundness.specs.Order.{inOrder}
+use Rattle.decoder.specs.Pieces.{Sorts}
 use Rattle.decoder.specs.declared.EntryRead.{EntryRead}
 use Rattle.decoder.specs.declared.PairsRead.{PairsRead}
 use Rattle.layout.proofs.Lists.{sum-sort}

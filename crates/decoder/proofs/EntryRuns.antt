@@ -10,7 +10,8 @@ use lib.Seq.{drop-drop, take-all}
 use Rattle.catalogue.specs.Reading.{Read, bad, every, got, readEntries, readEntry, then}
 use Rattle.catalogue.specs.Version.{version1}
 use Rattle.decoder.proofs.Entering.{entry-bad, entry-got}
-use Rattle.decoder.proofs.Runs.{after-more, after-none, pushed}
+use Rattle.decoder.proofs.Runs.{after-more, after-none}
+use Rattle.soundness.proofs.Joined.{filesTo, pushed}
 use Rattle.decoder.specs.Entries.{EntryAt, acceptable, accepted, allAccepted, entryIn}
 use Rattle.decoder.specs.Fields.{readAfter}
 use Rattle.decoder.specs.declared.EntryRead.{EntryRead}
@@ -86,9 +87,6 @@ unfolding readEntries allAccepted every
 entries-end bs acc = ap (λ z. got z bs) (append-nil acc)
 
 -- ---- with the entries that were read in an array
-
-abbrev pub filesTo : ℕ → List Entry → List File
-filesTo i files = map fileOf (take i files)
 
 abbrev pub FilesLeft : List ℕ → ℕ → ℕ → ℕ → List Entry → Read (List File)
 FilesLeft s count at i files = readAfter (filesTo i files) (allAccepted (EntriesLeft (count - i) (drop at s)))

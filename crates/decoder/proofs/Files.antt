@@ -14,56 +14,25 @@ use borrow.Author.Tests.{eq-eqb, eqb-false, eqb-true, le-leb, leb-false, leb-tru
 use borrow.Author.Tests.{not-true}
 use Rattle.catalogue.proofs.Tests.{and-intro, pairs-pairwise, pairwise-pairs}
 use Rattle.catalogue.specs.Reading.{Read, bad, fileRead, got, pairwise}
-use Rattle.decoder.proofs.Points.{false-true, is-false}
+use Rattle.soundness.proofs.Ordered.{distinct, order-both, order-distinct, order-rises, pairwise-and, rising}
+use Rattle.soundness.proofs.Points.{false-true, is-false}
+use Rattle.soundness.specs.Order.{inOrder}
 use Rattle.decoder.specs.Entries.{acceptable, accepted, isFile}
 use Rattle.decoder.specs.Fields.{fieldValues}
-use Rattle.decoder.specs.Pieces.{inOrder, inTurn}
-use Rattle.layout.proofs.Lists.{each-and, length-sort, pairwise-imp, sort-sorted, sum-sort}
+use Rattle.layout.proofs.Lists.{length-sort, pairwise-imp, sort-sorted, sum-sort}
 use Rattle.layout.proofs.Ones.{at-most-one-distinct, distinct-at-most-one}
 use Rattle.layout.proofs.Splitting.{AtMostOne}
 use Rattle.layout.specs.Layout.{File, blockCount, byLength, fileBlocks, ofHeight}
-use Rattle.layout.specs.Lists.{Pairwise, next, none, sortBy}
+use Rattle.layout.specs.Lists.{Pairwise, sortBy}
 use Rattle.layout.specs.Sound.{greatestId}
 use Rattle.section.proofs.Booleans.{and-true}
 use Rattle.section.specs.Sections.{lengthOf}
 use Rattle.section.specs.declared.Section.{Section}
 
--- ---- the order of the pairs, and page order
+-- ---- page order
 
-abbrev pub rising : List Section → Bool
-rising l = pairwise (λ (s t : Section). ltb (s .first) (t .first)) l
-
-abbrev pub distinct : List Section → Bool
-distinct l = pairwise (λ (s t : Section). not (eqb (lengthOf s) (lengthOf t))) l
-
-abbrev pub falling : List Section → Bool
+abbrev falling : List Section → Bool
 falling l = pairwise (λ (s t : Section). ltb (lengthOf t) (lengthOf s)) l
-
-pairwise-and {ℓ κ ν} : {A : Type ℓ} {R : A → A → Type κ} {S : A → A → Type ν} {l : List A} → Pairwise R l
-    → Pairwise S l
-    → Pairwise (λ a b. R a b × S a b) l
-pairwise-and none q = none
-pairwise-and (next e p) (next f q) = next (each-and e f) (pairwise-and p q)
-
-pub order-rises : (l : List Section) → inOrder l ≡ true → rising l ≡ true
-unfolding inTurn
-order-rises l e =
-    pairs-pairwise _
-    (pairwise-imp (λ s t q. and-true (ltb (s .first) (t .first)) (not (eqb (lengthOf s) (lengthOf t))) q .0)
-    (pairwise-pairs inTurn l e))
-
-pub order-distinct : (l : List Section) → inOrder l ≡ true → distinct l ≡ true
-unfolding inTurn
-order-distinct l e =
-    pairs-pairwise _
-    (pairwise-imp (λ s t q. and-true (ltb (s .first) (t .first)) (not (eqb (lengthOf s) (lengthOf t))) q .1)
-    (pairwise-pairs inTurn l e))
-
-pub order-both : (l : List Section) → rising l ≡ true → distinct l ≡ true → inOrder l ≡ true
-unfolding inTurn
-order-both l p q =
-    pairs-pairwise inTurn
-    (pairwise-imp (λ s t w. and-intro (w .0) (w .1)) (pairwise-and (pairwise-pairs _ l p) (pairwise-pairs _ l q)))
 
 abbrev Unlike : Section → Section → Type 0
 Unlike s t = lengthOf s ≡ lengthOf t → ⊥

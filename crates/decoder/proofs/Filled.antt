@@ -6,8 +6,9 @@ use Prim.Native.Nat.{_*_, _≤_, ℕ}
 use native.Mathlib.Omega.{arith}
 use lib.ListN.{drop, length, take}
 use Rattle.catalogue.specs.Reading.{Read, bad, got}
-use Rattle.decoder.proofs.EntryRuns.{EntriesLeft, filesTo}
-use Rattle.decoder.proofs.Points.{false-true}
+use Rattle.decoder.proofs.EntryRuns.{EntriesLeft}
+use Rattle.soundness.proofs.Joined.{filesTo}
+use Rattle.soundness.proofs.Points.{false-true}
 use Rattle.decoder.specs.Entries.{FilesAt, NoFiles, allAccepted, filesIn}
 use Rattle.decoder.specs.Fields.{fieldValues}
 use Rattle.decoder.specs.declared.FilesRead.{FilesRead}

@@ -1,7 +1,6 @@
 -- The laws of the loader, by subject.
 pub mod Places
 pub mod Runs
-pub mod Points
 pub mod Inserting
 pub mod Files
 pub mod Entering
@@ -10,6 +9,5 @@ pub mod Filled
 pub mod Early
 pub mod Whole
 pub mod Tabled
-pub mod Joined
-pub mod Tested
-pub mod Sounding
+pub mod ZeroBytes
+pub mod Judging

@@ -3,13 +3,13 @@ use mathlib.Core.Bool.{false, true}
 use mathlib.Core.List.{List, [], _++_, _∷_, append-nil}
 use mathlib.Core.Path.{_∙_, _≡_, ap, refl, sym}
 use Prim.Native.Nat.{_*_, _+_, _-_, _<_, _≤_, suc, ℕ}
-use native.Mathlib.Numerals.{add-one}
 use native.Mathlib.Omega.{arith}
 use lib.ListN.{drop, length, set, take}
-use lib.Seq.{append-snoc, length-take-le, take-suc-set}
+use lib.Seq.{append-snoc, length-take-le}
 use Rattle.catalogue.specs.Reading.{Read, bad, got, readPair, readPairs, then}
 use Rattle.catalogue.specs.Version.{version1}
 use Rattle.decoder.proofs.Places.{drop-same, pair-bad, pair-got}
+use Rattle.soundness.proofs.Joined.{pushed}
 use Rattle.decoder.specs.Fields.{PairAt, PairsAt, mostOnes, pairsIn, readAfter}
 use Rattle.decoder.specs.declared.PairRead.{PairRead}
 use Rattle.decoder.specs.declared.PairsRead.{PairsRead}
@@ -20,10 +20,6 @@ use Rattle.section.proofs.Nested.{inside}
 use Rattle.section.specs.Limits.{greatestDisk}
 use Rattle.section.specs.declared.Section.{Section}
 use Rattle.free_pieces.specs.Free.{freeOf}
-
-pub pushed {ℓ} : {A : Type ℓ} (p : List A) (m : ℕ) (a : A) → m < length p
-    → take (m + 1) (set p m a) ≡ take m p ++ (a ∷ [])
-pushed p m a h = rw add-one (take-suc-set p m a h)
 
 pub sum-pushed {ℓ} : {A : Type ℓ} (w : A → ℕ) (p : List A) (m : ℕ) (a : A) → m < length p
     → sumOf w (take (m + 1) (set p m a)) ≡ sumOf w (take m p) + w a

@@ -10,12 +10,13 @@ use lib.Seq.{length-take-le}
 use Rattle.catalogue.specs.Reading.{bad, got, readCatalogue, readPairs, unsound}
 use Rattle.catalogue.specs.Version.{version1}
 use Rattle.decoder.proofs.EntryRuns.{EntriesLeft}
-use Rattle.decoder.proofs.Points.{false-true}
+use Rattle.soundness.proofs.Points.{false-true}
 use Rattle.decoder.proofs.Runs.{pairs-bad, pairs-got}
 use Rattle.decoder.proofs.Whole.{bad-files, bad-free, got-layout, got-sound}
 use Rattle.decoder.specs.Entries.{FilesAt, allAccepted, filesIn}
 use Rattle.decoder.specs.Fields.{FieldAt, PairsAt, pairsIn}
-use Rattle.decoder.specs.Loading.{Exact, TableAt}
+use Rattle.soundness.specs.Counts.{Exact}
+use Rattle.decoder.specs.Loading.{TableAt}
 use Rattle.decoder.specs.declared.FilesRead.{FilesRead}
 use Rattle.decoder.specs.declared.PairsRead.{PairsRead}
 use Rattle.decoder.specs.declared.TableRead.{TableRead}

@@ -13,8 +13,8 @@ use Rattle.free_pieces.specs.Free.{piecePlaces}
 use Rattle.table.specs.Tables.{InPlaces, fileOf, piecesIn}
 use Rattle.catalogue.specs.Version.{version1}
 use Rattle.catalogue.specs.Reading.{Read, got, bad, every, soundFile, readEntry, readEntries}
+use Rattle.soundness.specs.Order.{inOrder}
 use Rattle.decoder.specs.Fields.{fieldBytes, fieldValues}
-use Rattle.decoder.specs.Pieces.{inOrder}
 use Rattle.decoder.specs.declared.EntryRead.{EntryRead}
 use Rattle.decoder.specs.declared.FilesRead.{FilesRead}
 

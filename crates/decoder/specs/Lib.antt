@@ -3,4 +3,3 @@ pub mod Fields
 pub mod Pieces
 pub mod Entries
 pub mod Loading
-pub mod Checking

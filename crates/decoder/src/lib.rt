@@ -1,26 +1,26 @@
 // The bytes of a catalogue: a table is read from them, and refused unless it is sound.
-use checks::is_sound;
-use checks::is_zero_from;
 use free_pieces::Free;
 use section::Section;
+use soundness::is_sound;
 use table::Entry;
 use table::Table;
 use tables::no_table;
 use tables::read_table;
+use zeros::is_zero_from;
 ghost use mathlib.Core.Path.{_≡_};
 ghost use mathlib.Core.Bool.{false};
 ghost use lib.ListN.{length};
 ghost use Rattle.section.specs.Limits.{catalogueSize};
 ghost use Rattle.catalogue.specs.Version.{version1};
 ghost use Rattle.catalogue.specs.Reading.{readCatalogue};
-ghost use Rattle.decoder.specs.Loading.{Exact, Ready, readingOf};
+ghost use Rattle.soundness.specs.Counts.{Exact};
+ghost use Rattle.decoder.specs.Loading.{Ready, readingOf};
 
-pub mod checks;
 pub mod entries;
 pub mod fields;
-pub mod gather;
 pub mod pieces;
 pub mod tables;
+pub mod zeros;
 
 // A pair, if there is one: the section and its length.
 pub struct PairRead {
@@ -65,12 +65,6 @@ pub struct TableRead {
 pub struct Loaded {
     pub sound: bool,
     pub table: Table,
-}
-
-// The pieces of all files, and then the free ones.
-pub struct Gathered {
-    pub count: usize,
-    pub items: [Section; 858],
 }
 
 fn refused() -> Loaded

@@ -12,7 +12,8 @@ ghost use mathlib.Core.Bool.{true, false};
 ghost use Prim.Native.Nat.{_-_, _≤_};
 ghost use lib.ListN.{length};
 ghost use Rattle.section.specs.Limits.{catalogueSize};
-ghost use Rattle.decoder.specs.Loading.{Exact, TableAt};
+ghost use Rattle.soundness.specs.Counts.{Exact};
+ghost use Rattle.decoder.specs.Loading.{TableAt};
 
 // An empty table.
 pub fn no_table() -> Table

@@ -15,7 +15,8 @@ use Rattle.catalogue.proofs.Reading.{read-sound}
 use Rattle.catalogue.proofs.Roomy.{version1-roomy}
 use Rattle.catalogue.specs.Reading.{Reading, readCatalogue, sound, unsound}
 use Rattle.catalogue.specs.Version.{version1}
-use Rattle.decoder.specs.Loading.{Exact, readingOf}
+use Rattle.soundness.specs.Counts.{Exact}
+use Rattle.decoder.specs.Loading.{readingOf}
 use Rattle.decoder.specs.declared.Loaded.{Loaded}
 use Rattle.layout.specs.Layout.{Layout}
 use Rattle.manager.proofs.OnRead.{not-sound, wrong-length}

@@ -4,7 +4,7 @@ use native.Mathlib.Omega.{arith}
 use borrow.Author.Needs.{needs}
 use borrow.Author.Tests.{not-true, not-false}
 use Rattle.decoder.specs.Loading.{readingOf}
-use Rattle.decoder.proofs.Sounding.{all-sound, few-free, not-sound, not-zero, nothing-loaded}
+use Rattle.decoder.proofs.Judging.{all-sound, few-free, not-sound, not-zero, nothing-loaded}
 use Rattle.decoder.proofs.load.Statement.{statement}
 use Rattle.decoder.proofs.load.Tie as tie
 

@@ -4,7 +4,7 @@ use native.Mathlib.Omega.{arith}
 use lib.ListN.{length}
 use borrow.Author.Needs.{needs}
 use lib.Seq.{length-take-le}
-use Rattle.decoder.proofs.Points.{length-of-mapped}
+use Rattle.free_pieces.proofs.Arrays.{length-of-mapped}
 use Rattle.decoder.proofs.Entering.{many-pieces, no-blocks, no-id, order-left, other-sum}
 use Rattle.free_pieces.specs.Free.{freeOf, freePlaces}
 use Rattle.decoder.proofs.entries.is_file.Statement.{statement}

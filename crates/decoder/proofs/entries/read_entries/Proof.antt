@@ -14,7 +14,8 @@ use Rattle.table.specs.Tables.{InPlaces}
 use Rattle.decoder.specs.Fields.{fieldValues}
 use Rattle.decoder.specs.Entries.{allAccepted}
 use Rattle.decoder.proofs.EntryRuns.{EntriesLeft, FilesLeft, entry-inside, files-bad, files-end, files-more}
-use Rattle.decoder.proofs.EntryRuns.{files-start, files-sum, filesTo}
+use Rattle.decoder.proofs.EntryRuns.{files-start, files-sum}
+use Rattle.soundness.proofs.Joined.{filesTo}
 use Rattle.decoder.proofs.Filled.{no-files-at, some-files-at}
 use Rattle.decoder.proofs.entries.read_entries.Statement.{statement}
 use Rattle.decoder.proofs.entries.read_entries.Tie as tie

@@ -1,0 +1,111 @@
+-- What each test on a table says. Assumes nothing.
+use mathlib.Core.Bool.{Bool, _&&_, false, true}
+use mathlib.Core.List.{List, [], _∷_, map}
+use mathlib.Core.Path.{_∙_, _≡_, ap, ap₂, refl, subst, sym}
+use Prim.Native.Nat.{_+_, _-_, _<_, _≤_, ℕ}
+use native.Mathlib.Decide.{ℕ-discrete}
+use native.Mathlib.Omega.{arith}
+use lib.Dec.{eqb, ltb}
+use lib.ListN.{getD, length, take}
+use lib.Pow.{pow-pos}
+use borrow.Author.Count.{below-more}
+use borrow.Author.Tests.{le-leb, le-ltb, lt-leb, lt-ltb, ltb-true}
+use Rattle.catalogue.specs.Reading.{every, pairwise, soundPiece}
+use Rattle.catalogue.specs.Version.{version1}
+use Rattle.soundness.proofs.Joined.{blankEntry, filesTo}
+use Rattle.soundness.proofs.Points.{pair-fails, pairs-hold}
+use Rattle.soundness.specs.Checking.{idsRise, sumsAgree}
+use Rattle.layout.specs.Layout.{File}
+use Rattle.section.proofs.Answers.{on-disk-iff}
+use Rattle.section.proofs.Booleans.{and-true, and-true-right, false-and}
+use Rattle.section.specs.Sections.{Addressable, isOnDisk}
+use Rattle.section.specs.declared.Section.{Section}
+use Rattle.table.specs.Tables.{fileOf}
+use Rattle.table.specs.declared.Entry.{Entry}
+
+-- ---- sums
+
+module _ (c pages free : ℕ) where
+  pub no-disk : c < 1 → sumsAgree c pages free ≡ false
+  unfolding sumsAgree
+  no-disk h = simp (lt-leb 1 c h)
+
+  pub large-disk : 4096 < c → sumsAgree c pages free ≡ false
+  unfolding sumsAgree
+  large-disk h = simp (le-leb 1 c (omega arith), lt-leb c 4096 h)
+
+  pub many-pages : 1 ≤ c → c ≤ 4096 → c < pages → sumsAgree c pages free ≡ false
+  unfolding sumsAgree
+  many-pages p q h = simp (le-leb 1 c p, le-leb c 4096 q, lt-leb pages c h)
+
+  pub sums-left : 1 ≤ c → c ≤ 4096 → pages ≤ c → sumsAgree c pages free ≡ eqb free (c - pages)
+  unfolding sumsAgree
+  sums-left p q h = simp (le-leb 1 c p, le-leb c 4096 q, le-leb pages c h)
+
+-- ---- ids
+
+every-map {ℓ κ} : {A : Type ℓ} {B : Type κ} (p : B → Bool) (f : A → B) (l : List A)
+    → every p (map f l) ≡ every (λ a. p (f a)) l
+unfolding every
+every-map p f [] = refl
+every-map p f (a ∷ l) = ap (λ t. p (f a) && t) (every-map p f l)
+
+pairwise-over {ℓ κ} : {A : Type ℓ} {B : Type κ} (r : B → B → Bool) (f : A → B) (l : List A)
+    → pairwise r (map f l) ≡ pairwise (λ a b. r (f a) (f b)) l
+unfolding pairwise
+pairwise-over r f [] = refl
+pairwise-over r f (a ∷ l) = ap₂ (λ x y. x && y) (every-map (r (f a)) f l) (pairwise-over r f l)
+
+abbrev idBefore : Entry → Entry → Bool
+idBefore a b = ltb (a .id) (b .id)
+
+-- ids rise over the places before i
+abbrev pub Climbs : List Entry → ℕ → Type 0
+Climbs l i = (a b : ℕ) → a < b → b < i → getD l a blankEntry .id < getD l b blankEntry .id
+
+pub climbs-start : (l : List Entry) → Climbs l 1
+climbs-start l a b p q = absurd (omega arith)
+
+pub climbs-more : (l : List Entry) (i : ℕ) → 1 ≤ i → Climbs l i
+    → getD l (i - 1) blankEntry .id < getD l i blankEntry .id
+    → Climbs l (i + 1)
+climbs-more l i h f e a b p q =
+    below-more (λ b. a < b → getD l a blankEntry .id < getD l b blankEntry .id) i (λ b q p. f a b p q)
+    (λ p. last p) b q p
+  where
+    last : a < i → getD l a blankEntry .id < getD l i blankEntry .id
+    last p =
+        elim (ℕ-discrete a (i - 1)) [
+          | yes z ↦ subst (λ k. getD l k blankEntry .id < getD l i blankEntry .id) (sym z) e
+          | no n ↦ omega (arith, f a (i - 1) (omega (arith, n)) (omega arith))
+        ]
+
+module _ (l : List Entry) (m : ℕ) (h : m ≤ length l) where
+  pub ids-hold : (i : ℕ) → m ≤ i → Climbs l i → idsRise (filesTo m l) ≡ true
+  ids-hold i q f =
+      pairwise-over (λ (x y : File). ltb (x .id) (y .id)) fileOf (take m l)
+      ∙ pairs-hold l m blankEntry h idBefore
+      (λ a b p k. lt-ltb (getD l a blankEntry .id) (getD l b blankEntry .id) (f a b p (omega arith)))
+
+  pub ids-fail : (i : ℕ) → 1 ≤ i → i < m → getD l i blankEntry .id ≤ getD l (i - 1) blankEntry .id
+      → idsRise (filesTo m l) ≡ false
+  ids-fail i p q e =
+      pairwise-over (λ (x y : File). ltb (x .id) (y .id)) fileOf (take m l)
+      ∙ pair-fails l m blankEntry h idBefore (i - 1) i (omega arith) q
+      (le-ltb (getD l (i - 1) blankEntry .id) (getD l i blankEntry .id) e)
+
+-- ---- pieces of the disk
+
+pub high-piece : (c : ℕ) (s : Section) → 12 < s .height .value → soundPiece (version1 .heights) c s ≡ false
+high-piece c s h = false-and (isOnDisk c s) (le-ltb (s .height .value) 13 (omega arith))
+
+pub low-piece : (c : ℕ) (s : Section) → s .height .value ≤ 12 → soundPiece (version1 .heights) c s ≡ isOnDisk c s
+low-piece c s h = and-true-right (isOnDisk c s) (lt-ltb (s .height .value) 13 (omega arith))
+
+pub piece-addressable : (c : ℕ) (s : Section) → c ≤ 4096 → soundPiece (version1 .heights) c s ≡ true → Addressable s
+piece-addressable c s h e =
+    let w = and-true (isOnDisk c s) (ltb (s .height .value) 13) e in
+    let d = on-disk-iff c s .0 (w .0) .1 in (
+      omega (arith, ltb-true (s .height .value) 13 (w .1)),
+      omega (arith, pow-pos (s .height .value)),
+    )

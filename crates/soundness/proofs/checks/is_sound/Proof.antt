@@ -1,0 +1,95 @@
+-- `soundness::checks::is_sound` meets its contract: with what reading tested, the whole test. Assumes nothing.
+use mathlib.Core.Path.{_∙_, sym, ap}
+use mathlib.Core.Bool.{not}
+use borrow.Author.Needs.{needs}
+use borrow.Author.Tests.{not-true, not-false}
+use Rattle.catalogue.specs.Version.{version1}
+use Rattle.catalogue.specs.Reading.{every, soundPiece}
+use Rattle.soundness.specs.Checking.{noneShared}
+use Rattle.soundness.proofs.Sounding.{all-addressable, disk-unsound, free-unsound, ids-unsound, not-not}
+use Rattle.soundness.proofs.Sounding.{shared-left, sums-unsound}
+use Rattle.soundness.proofs.checks.is_sound.Statement.{statement}
+use Rattle.soundness.proofs.checks.is_sound.Tie as tie
+
+sums-agree-requires : tie.Need-sums-agree-requires
+sums-agree-requires c κs = search needs
+
+returns : tie.Need-returns
+returns c =
+    let p = c .before .before .pre in
+    sym (sums-unsound _ _ _ (p .0) (p .1) (sym (c .before .sums-agree .ensures) ∙ not-true _ (c .if1 .taken)))
+
+ids-rise-requires : tie.Need-ids-rise-requires
+ids-rise-requires c κs = search needs
+
+returns-2 : tie.Need-returns-2
+returns-2 c =
+    let p = c .before .before .before .before .pre in
+    sym (ids-unsound _ _ _ (p .0) (p .1) (sym (c .before .ids-rise .ensures) ∙ not-true _ (c .if2 .taken)))
+
+in-order-requires : tie.Need-in-order-requires
+in-order-requires c κs = search needs
+
+returns-3 : tie.Need-returns-3
+returns-3 c =
+    let p = c .before .before .before .before .before .before .before .pre in
+    sym (free-unsound _ _ _ (p .0) (p .1) (sym (c .before .in-order .ensures) ∙ not-true _ (c .if3 .taken)))
+
+gathered-requires : tie.Need-gathered-requires
+gathered-requires c κs = search needs
+
+all-on-disk-requires : tie.Need-all-on-disk-requires
+all-on-disk-requires c κs = search needs
+
+returns-4 : tie.Need-returns-4
+returns-4 c =
+    let p = c .before .before .before .before .before .before .before .before .before .before .pre in
+    let b =
+    c .before .before .before .before .before .before .before .before .before .before .args .table .blocks in
+    sym (disk-unsound _ _ _ (p .0) (p .1)
+    (sym (ap (every (soundPiece (version1 .heights) b)) (c .before .before .gathered .ensures .1))
+    ∙ (sym (c .before .all-on-disk .ensures) ∙ not-true _ (c .if4 .taken))))
+
+any-shared-requires : tie.Need-any-shared-requires
+any-shared-requires c κs =
+    let p = c .before .before .before .before .before .before .before .before .before .before .pre in (
+      c .before .before .gathered .ensures .0,
+      all-addressable _ _ _ (p .0) (p .1) _
+          (sym (c .before .before .before .before .before .before .before .before .before .sums-agree .ensures)
+          ∙ not-false _ (c .before .before .before .before .before .before .before .before .if1 .left))
+          (sym (c .before .all-on-disk .ensures) ∙ not-false _ (c .if4 .left)),
+    )
+
+returns-5 : tie.Need-returns-5
+returns-5 c =
+    let p = c .before .before .before .before .before .before .before .before .before .before .before .pre in
+    let b = c .before .before .before .before .before .before .before .before .before .before .before .args .table
+    .blocks in
+    ap not (c .any-shared .ensures)
+    ∙ (not-not _
+    ∙ (ap noneShared (c .before .before .before .gathered .ensures .1)
+    ∙ shared-left _ _ _ (p .0) (p .1)
+    (sym (c .before .before .before .before .before .before .before .before .before .before .sums-agree .ensures)
+    ∙ not-false _ (c .before .before .before .before .before .before .before .before .before .if1 .left))
+    (sym (c .before .before .before .before .before .before .before .before .ids-rise .ensures)
+    ∙ not-false _ (c .before .before .before .before .before .before .before .if2 .left))
+    (sym (c .before .before .before .before .before .in-order .ensures)
+    ∙ not-false _ (c .before .before .before .before .if3 .left))
+    (sym (ap (every (soundPiece (version1 .heights) b)) (c .before .before .before .gathered .ensures .1))
+    ∙ (sym (c .before .before .all-on-disk .ensures) ∙ not-false _ (c .before .if4 .left)))))
+
+pub is-sound-spec : {M : Type 1} → statement M
+is-sound-spec =
+    tie.close
+    (tie.spec
+    sums-agree-requires
+    returns
+    ids-rise-requires
+    returns-2
+    in-order-requires
+    returns-3
+    gathered-requires
+    all-on-disk-requires
+    returns-4
+    any-shared-requires
+    returns-5)

@@ -1,0 +1,42 @@
+-- What the tests on a table that was read promise. Definitions only.
+use mathlib.Core.Bool.{Bool, _&&_, not}
+use mathlib.Core.List.{List}
+use mathlib.Core.Path.{_≡_}
+use Prim.Native.Nat.{ℕ, _-_, _<_}
+use lib.Dec.{leb, ltb, eqb}
+use lib.ListN.{getD, length, take}
+use Rattle.section.specs.declared.Section.{Section}
+use Rattle.section.specs.Heights.{IsLength}
+use Rattle.section.specs.Limits.{greatestDisk}
+use Rattle.section.specs.Sections.{section, sharesBlock}
+use Rattle.layout.specs.Layout.{File}
+use Rattle.catalogue.specs.Reading.{pairwise}
+use Rattle.soundness.specs.declared.Gathered.{Gathered}
+
+-- the places for the pieces of 64 files and the free ones
+abbrev pub gatheredPlaces : ℕ
+gatheredPlaces = 858
+
+-- the pieces that were gathered
+unfoldable pub piecesOf : Gathered → List Section
+piecesOf g = take (g .count) (g .items)
+
+-- l has the lengths of the pieces that were gathered, each at its piece's place
+abbrev pub Lengths : Gathered → List ℕ → Type 0
+Lengths g l =
+    (length l ≡ gatheredPlaces)
+    × ((k : ℕ) → k < g .count → IsLength (getD (g .items) k (section 0 0) .height) (getD l k 0))
+
+-- C and the blocks of the files and of the free pieces agree
+unfoldable pub sumsAgree : ℕ → ℕ → ℕ → Bool
+sumsAgree c pages free = leb 1 c && (leb c greatestDisk && (leb pages c && eqb free (c - pages)))
+
+abbrev pub idsRise : List File → Bool
+idsRise l = pairwise (λ (f g : File). ltb (f .id) (g .id)) l
+
+abbrev pub apart : Section → Section → Bool
+apart s t = not (sharesBlock s t)
+
+-- no two pieces share a block
+abbrev pub noneShared : List Section → Bool
+noneShared l = pairwise (λ (s t : Section). not (sharesBlock s t)) l

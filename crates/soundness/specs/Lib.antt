@@ -1,0 +1,4 @@
+-- Definitions only: what the tests of soundness promise, and of which tables.
+pub mod Counts
+pub mod Order
+pub mod Checking

@@ -1,0 +1,145 @@
+// Whether a table that was read is sound. Sums are tested before blocks that are shared.
+use crate::Gathered;
+use crate::gather::gathered;
+use crate::order::in_order;
+use section::Section;
+use table::Table;
+ghost use mathlib.Core.Path.{_≡_};
+ghost use mathlib.Core.Bool.{not};
+ghost use Prim.Native.Nat.{_≤_};
+ghost use Rattle.section.specs.Sections.{Addressable};
+ghost use Rattle.layout.specs.Lists.{Each};
+ghost use Rattle.table.specs.Tables.{filesOf, layoutOf};
+ghost use Rattle.catalogue.specs.Version.{version1};
+ghost use Rattle.catalogue.specs.Reading.{every, isSound, soundPiece};
+ghost use Rattle.soundness.specs.Checking.{Lengths, gatheredPlaces, piecesOf};
+ghost use Rattle.soundness.specs.Checking.{idsRise, noneShared, sumsAgree};
+ghost use Rattle.soundness.specs.Counts.{Counted, Exact};
+
+// Whether C and the sums of the files' blocks and of the free blocks agree.
+fn sums_agree(blocks: u32, sum: u32, free: u32) -> bool
+    ensures { λ r. ⌜ r ≡ sumsAgree blocks sum free ⌝ }
+{
+    if blocks < 1 {
+        return false;
+    }
+    if 4096 < blocks {
+        return false;
+    }
+    if blocks < sum {
+        return false;
+    }
+    free == blocks - sum
+}
+
+// Whether the files stand by rising id.
+fn ids_rise(table: Table) -> bool
+    requires { ⌜ Exact table ⌝ }
+    ensures { λ r. ⌜ r ≡ idsRise (filesOf table) ⌝ }
+{
+    let count = table.count;
+    let mut i: usize = 1;
+    while i < count {
+        let before = table.files[i - 1];
+        let entry = table.files[i];
+        if entry.id <= before.id {
+            return false;
+        }
+        i += 1;
+    }
+    true
+}
+
+// Whether a piece is a section of the disk.
+fn is_piece(section: Section, blocks: u32) -> bool
+    ensures { λ r. ⌜ r ≡ soundPiece (version1 .heights) blocks section ⌝ }
+{
+    let h = section.height;
+    if 12 < h.value {
+        return false;
+    }
+    section.is_on_disk(blocks)
+}
+
+// Whether all pieces are sections of the disk.
+fn all_on_disk(list: Gathered, blocks: u32) -> bool
+    requires { ⌜ list .count ≤ gatheredPlaces ⌝ }
+    ensures { λ r. ⌜ r ≡ every (soundPiece (version1 .heights) blocks) (piecesOf list) ⌝ }
+{
+    let count = list.count;
+    let mut i: usize = 0;
+    while i < count {
+        let section = list.items[i];
+        if !is_piece(section, blocks) {
+            return false;
+        }
+        i += 1;
+    }
+    true
+}
+
+// The length of each piece, for the comparison of every two.
+fn lengths_of(list: Gathered) -> [u32; 858]
+    requires { ⌜ (list .count ≤ gatheredPlaces) × Each Addressable (piecesOf list) ⌝ }
+    ensures { λ r. ⌜ Lengths list r ⌝ }
+{
+    let count = list.count;
+    let mut lengths: [u32; 858] = [0; 858];
+    let mut i: usize = 0;
+    while i < count {
+        let section = list.items[i];
+        let height = section.height;
+        lengths[i] = height.length();
+        i += 1;
+    }
+    lengths
+}
+
+// Whether some two pieces share a block.
+fn any_shared(list: Gathered) -> bool
+    requires { ⌜ (list .count ≤ gatheredPlaces) × Each Addressable (piecesOf list) ⌝ }
+    ensures { λ r. ⌜ r ≡ not (noneShared (piecesOf list)) ⌝ }
+{
+    let count = list.count;
+    let lengths = lengths_of(list);
+    let mut found = false;
+    let mut i: usize = 0;
+    'pairs: while i < count {
+        let a = list.items[i];
+        let n = lengths[i];
+        let mut j = i + 1;
+        while j < count {
+            let b = list.items[j];
+            let m = lengths[j];
+            if a.shares_block(n, b, m) {
+                found = true;
+                break 'pairs;
+            }
+            j += 1;
+        }
+        i += 1;
+    }
+    found
+}
+
+// Whether the table that was read is sound: its files and the number of its free pieces were tested in reading.
+pub fn is_sound(table: Table, sum: u32, free: u32) -> bool
+    requires { ⌜ Exact table × Counted table sum free ⌝ }
+    ensures { λ r. ⌜ r ≡ isSound (version1 .heights) (layoutOf table) ⌝ }
+{
+    if !sums_agree(table.blocks, sum, free) {
+        return false;
+    }
+    if !ids_rise(table) {
+        return false;
+    }
+    let list = table.free;
+    if !in_order(list) {
+        return false;
+    }
+    let all = gathered(table);
+    if !all_on_disk(all, table.blocks) {
+        return false;
+    }
+    !any_shared(all)
+}

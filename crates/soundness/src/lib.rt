@@ -1,0 +1,16 @@
+// Whether a table that was read is sound: its sums, the order of its files and free pieces, and that no two pieces
+// share a block. No bytes.
+use section::Section;
+
+mod checks;
+mod gather;
+mod order;
+
+pub use checks::is_sound;
+pub use order::in_order;
+
+// The pieces of all files, and then the free ones.
+pub struct Gathered {
+    pub count: usize,
+    pub items: [Section; 858],
+}

@@ -1,0 +1,42 @@
+// The order of pieces in the bytes.
+use free_pieces::Free;
+use section::Section;
+ghost use mathlib.Core.Path.{_≡_};
+ghost use Prim.Native.Nat.{_≤_};
+ghost use Rattle.free_pieces.specs.Free.{freeOf, freePlaces};
+ghost use Rattle.soundness.specs.Order.{inOrder, inTurn};
+
+// Whether `b` may stand after `a`: it starts later and has another length.
+fn follows(a: Section, b: Section) -> bool
+    ensures { λ r. ⌜ r ≡ inTurn a b ⌝ }
+{
+    if b.first <= a.first {
+        return false;
+    }
+    let g = a.height;
+    let h = b.height;
+    g.value != h.value
+}
+
+// Whether first blocks rise and lengths are distinct.
+pub fn in_order(list: Free) -> bool
+    requires { ⌜ list .count ≤ freePlaces ⌝ }
+    ensures { λ r. ⌜ r ≡ inOrder (freeOf list) ⌝ }
+{
+    let count = list.count;
+    let items = list.items;
+    let mut i: usize = 0;
+    while i < count {
+        let a = items[i];
+        let mut j = i + 1;
+        while j < count {
+            let b = items[j];
+            if !follows(a, b) {
+                return false;
+            }
+            j += 1;
+        }
+        i += 1;
+    }
+    true
+}

@@ -1,9 +1,8 @@
-// Each refusal once for each call that gives it, and each two that can apply together: the lower number is returned.
-//
-// Two pairs cannot apply together: 5 and 7, for no file has the id 0, and 6 and 9, for what is not there has no pages.
-use crate::show;
-use crate::store;
-use libc::STDOUT_FILENO;
+// Which refusals a call gives, and which two of them can apply together.
+ghost use mathlib.Core.Path.{_≡_};
+ghost use Rattle.manager.specs.Table.{isListed};
+ghost use Rattle.looking.specs.Answers.{replyOf};
+ghost use Rattle.cases.specs.Refusals.{HasRefusal, canMeet, isOneOf, numberIn};
 use looking::Answer;
 
 // The calls.
@@ -17,53 +16,40 @@ pub enum Call {
     Check,
 }
 
-// Writes the name of a call.
-fn print_name(call: Call) {
-    match call {
-        Call::Format => io::write_all(STDOUT_FILENO, b"format"),
-        Call::Add => io::write_all(STDOUT_FILENO, b"add"),
-        Call::Remove => io::write_all(STDOUT_FILENO, b"remove"),
-        Call::Read => io::write_all(STDOUT_FILENO, b"read"),
-        Call::Breaks => io::write_all(STDOUT_FILENO, b"breaks"),
-        Call::Free => io::write_all(STDOUT_FILENO, b"free"),
-        Call::Check => io::write_all(STDOUT_FILENO, b"check"),
+// Whether a number is one of a list.
+fn is_listed(number: u32, list: &[u32]) -> bool
+    ensures { λ r. ⌜ r ≡ isListed number (now (list .entry)) ⌝ }
+{
+    let mut i = 0;
+    while i < list.len() {
+        if number == list[i] {
+            return true;
+        }
+        i += 1;
     }
-    ;
+    false
 }
 
 // Whether the call gives the refusal.
-fn gives(call: Call, number: u32) -> bool {
+pub fn gives(call: Call, number: u32) -> bool
+    ensures { λ r. ⌜ HasRefusal call number r ⌝ }
+{
     match call {
-        Call::Format => number <= 2,
-        Call::Add => match number {
-            1 | 3 | 4 | 5 | 7 | 8 | 10 | 11 => true,
-            _ => false,
-        },
-        Call::Remove => match number {
-            1 | 3..=6 => true,
-            _ => false,
-        },
-        Call::Read => match number {
-            1 | 3..=6 | 8 | 9 => true,
-            _ => false,
-        },
-        Call::Breaks => match number {
-            1 | 3 | 5 | 6 => true,
-            _ => false,
-        },
-        Call::Free => match number {
-            1 | 3 => true,
-            _ => false,
-        },
-        Call::Check => match number {
-            1 | 3 | 4 => true,
-            _ => false,
-        },
+        Call::Format => is_listed(number, &[1, 2]),
+        Call::Add => is_listed(number, &[1, 3, 4, 5, 7, 8, 10, 11]),
+        Call::Remove => is_listed(number, &[1, 3, 4, 5, 6]),
+        Call::Read => is_listed(number, &[1, 3, 4, 5, 6, 8, 9]),
+        Call::Breaks => is_listed(number, &[1, 3, 5, 6]),
+        Call::Free => is_listed(number, &[1, 3]),
+        Call::Check => is_listed(number, &[1, 3, 4]),
     }
 }
 
-// Whether two refusals, the first no higher, can apply together.
-fn together(x: u32, y: u32) -> bool {
+// Whether two refusals, the first no higher, can apply together: no file has the id 0, and what is not there has no
+// pages.
+pub fn together(x: u32, y: u32) -> bool
+    ensures { λ r. ⌜ r ≡ canMeet x y ⌝ }
+{
     if x == 5 {
         y != 7
     } else if x == 6 {
@@ -73,71 +59,29 @@ fn together(x: u32, y: u32) -> bool {
     }
 }
 
-// What the call gives back, with parts of the buffers in which the refusals x and y apply.
-fn lend(call: Call, cat: &mut [u8], disk: &mut [u8], buffer: &mut [u8], x: u32, y: u32) -> Answer {
-    let c = io::count(store::catalogue_length(x, y), cat);
-    let d = io::count(store::disk_length(x, y), disk);
-    let b = io::count(store::buffer_length(x, y), buffer);
-    match call {
-        Call::Format => event_disk::format(&mut cat[..c], &disk[..d]),
-        Call::Add => event_disk::add(
-            &mut cat[..c],
-            &mut disk[..d],
-            store::id(100, x, y),
-            &buffer[..b],
-        ),
-        Call::Remove => event_disk::remove(&mut cat[..c], &mut disk[..d], store::id(1, x, y)),
-        Call::Read => {
-            let first = store::first_page(x, y);
-            event_disk::read(
-                &cat[..c],
-                &disk[..d],
-                store::id(1, x, y),
-                first,
-                &mut buffer[..b],
-            )
-        }
-        Call::Breaks => event_disk::breaks(&cat[..c], store::id(1, x, y)),
-        Call::Free => event_disk::free(&cat[..c]),
-        Call::Check => event_disk::check(&cat[..c], &disk[..d]),
-    }
+// Whether the refusal is one of two.
+pub fn is_one_of(number: u32, x: u32, y: u32) -> bool
+    ensures { λ r. ⌜ r ≡ isOneOf number x y ⌝ }
+{
+    if number == x { true } else { number == y }
 }
 
-// What the call gives back where the refusals x and y apply.
-fn reply(call: Call, x: u32, y: u32) -> Answer {
-    let mut cat = io::buffer();
-    let mut disk = io::large_buffer();
-    let mut buffer = io::large_buffer();
-    store::prepare(&mut cat, &mut disk, x, y);
-    lend(call, &mut cat, &mut disk, &mut buffer, x, y)
-}
-
-// Writes what the call gives back where the refusals x and y apply.
-fn print_line(call: Call, x: u32, y: u32) {
-    print_name(call);
-    show::print_number(b" ", x as u64);
-    if x < y {
-        show::print_number(b" ", y as u64);
-    }
-    show::print_case(b": ", reply(call, x, y));
-}
-
-// Writes a line for x by itself, and one for x and each higher refusal of the call.
-fn print_row(call: Call, x: u32) {
-    for y in x..12 {
-        if gives(call, y) {
-            if together(x, y) {
-                print_line(call, x, y);
-            }
-        }
-    }
-}
-
-// Writes the lines of a call, by rising numbers.
-pub fn print_rows(call: Call) {
-    for x in 1..12 {
-        if gives(call, x) {
-            print_row(call, x);
-        }
+// The number of the refusal that an answer is, or 0.
+pub fn number_of(a: Answer) -> u32
+    ensures { λ r. ⌜ r ≡ numberIn (replyOf a) ⌝ }
+{
+    match a {
+        Answer::Number(n) => 0,
+        Answer::CatalogueLength => 1,
+        Answer::NoDisk => 2,
+        Answer::NotSound => 3,
+        Answer::DiskLength => 4,
+        Answer::IdZero => 5,
+        Answer::IdMissing => 6,
+        Answer::IdThere => 7,
+        Answer::BufferLength => 8,
+        Answer::PastEnd => 9,
+        Answer::FilesFull => 10,
+        Answer::NoSpace => 11,
     }
 }

@@ -1,12 +1,12 @@
--- `cases::check_lower_buddy` passes its check. Assumes nothing.
+-- `section_cases::check_lower_buddy` passes its check. Assumes nothing.
 use mathlib.Core.Path.{refl, ap, _∙_}
 use borrow.Author.Needs.{needs}
 use borrow.Author.Tests.{eq-eqb}
 use native.Mathlib.Omega.{arith}
 use Rattle.section.specs.Sections.{isOnDisk, isAligned, buddyFirst}
 use Rattle.section.specs.declared.Section.{Section}
-use Rattle.cases.proofs.sections.check_lower_buddy.Statement.{statement}
-use Rattle.cases.proofs.sections.check_lower_buddy.Tie as tie
+use Rattle.section_cases.proofs.check_lower_buddy.Statement.{statement}
+use Rattle.section_cases.proofs.check_lower_buddy.Tie as tie
 
 lower-buddy-requires : tie.Need-lower-buddy-requires
 unfolding isOnDisk isAligned

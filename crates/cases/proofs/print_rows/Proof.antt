@@ -1,15 +1,15 @@
--- `cases::refusals::print_rows` ends: the refusals left are fewer each time. Assumes nothing.
+-- `cases::print_rows` ends: the refusals left are fewer each time. Assumes nothing.
 use Prim.Native.Nat.{_-_, _≤_}
 use native.Mathlib.Omega.{arith}
 use borrow.Author.Needs.{needs}
-use Rattle.cases.proofs.refusals.print_rows.Statement.{statement}
-use Rattle.cases.proofs.refusals.print_rows.Tie as tie
+use Rattle.cases.proofs.print_rows.Statement.{statement}
+use Rattle.cases.proofs.print_rows.Tie as tie
 
 abbrev Inv-loop : tie.InvT-loop
-Inv-loop call x₀ x = x₀ ≤ x
+Inv-loop name call x₀ x = x₀ ≤ x
 
 abbrev μ-loop : tie.MeasureT-loop
-μ-loop call x₀ x = 12 - x
+μ-loop name call x₀ x = 12 - x
 
 loop-holds : tie.Need-loop-holds Inv-loop μ-loop
 loop-holds c = omega arith

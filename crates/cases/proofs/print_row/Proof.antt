@@ -1,15 +1,15 @@
--- `cases::refusals::print_row` ends: the refusals left are fewer each time. Assumes nothing.
+-- `cases::print_row` ends: the refusals left are fewer each time. Assumes nothing.
 use Prim.Native.Nat.{_-_, _≤_}
 use native.Mathlib.Omega.{arith}
 use borrow.Author.Needs.{needs}
-use Rattle.cases.proofs.refusals.print_row.Statement.{statement}
-use Rattle.cases.proofs.refusals.print_row.Tie as tie
+use Rattle.cases.proofs.print_row.Statement.{statement}
+use Rattle.cases.proofs.print_row.Tie as tie
 
 abbrev Inv-loop : tie.InvT-loop
-Inv-loop call x y₀ y = y₀ ≤ y
+Inv-loop name call x y₀ y = y₀ ≤ y
 
 abbrev μ-loop : tie.MeasureT-loop
-μ-loop call x y₀ y = 12 - y
+μ-loop name call x y₀ y = 12 - y
 
 loop-holds : tie.Need-loop-holds Inv-loop μ-loop
 loop-holds c = omega arith

@@ -1,4 +1,4 @@
--- `cases::lower_buddy` meets its contract, by the laws of `section` alone. Assumes nothing.
+-- `section_cases::lower_buddy` meets its contract, by the laws of `section` alone. Assumes nothing.
 use mathlib.Core.Path.{_≡_, sym, ap, _∙_}
 use Prim.Native.Nat.{ℕ, _+_, _%_, _^_, _≤_}
 use borrow.Author.Needs.{needs}
@@ -6,8 +6,8 @@ use Rattle.section.proofs.Answers.{on-disk-iff, has-buddy-iff}
 use Rattle.section.proofs.Buddies.{buddy-of-lower}
 use Rattle.section.specs.Sections.{isOnDisk, hasBuddy}
 use Rattle.section.specs.declared.Height.{Height}
-use Rattle.cases.proofs.sections.lower_buddy.Statement.{statement}
-use Rattle.cases.proofs.sections.lower_buddy.Tie as tie
+use Rattle.section_cases.proofs.lower_buddy.Statement.{statement}
+use Rattle.section_cases.proofs.lower_buddy.Tie as tie
 
 buddy-requires : tie.Need-buddy-requires
 buddy-requires c κs = search needs

@@ -1,9 +1,9 @@
--- `cases::print_section` is safe for all numbers: what has a height is no higher than the greatest. Assumes nothing.
+-- `section_cases::print_section` is safe for all numbers: what has a height is no higher than the greatest. Assumes nothing.
 use mathlib.Core.Path.{sym, _∙_}
 use Rattle.section.proofs.Lengths.{length-of-height}
 use borrow.Author.Needs.{needs}
-use Rattle.cases.proofs.sections.print_section.Statement.{statement}
-use Rattle.cases.proofs.sections.print_section.Tie as tie
+use Rattle.section_cases.proofs.print_section.Statement.{statement}
+use Rattle.section_cases.proofs.print_section.Tie as tie
 
 slice-aggregate-print-pair : tie.Need-slice-aggregate-print-pair
 slice-aggregate-print-pair c = search needs

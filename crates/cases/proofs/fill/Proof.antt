@@ -1,23 +1,25 @@
--- `cases::store::add_pages` ends, and its buffers stay as long as they were. Assumes nothing.
+-- `cases::fill` ends, and its buffers stay as long as they were. Assumes nothing.
 use mathlib.Core.Path.{_≡_, _∙_, refl}
 use Prim.Native.Nat.{_-_}
 use lib.ListN.{length}
-use native.Mathlib.Omega.{arith}
 use borrow.Author.Needs.{needs}
-use Rattle.cases.proofs.store.add_pages.Statement.{statement}
-use Rattle.cases.proofs.store.add_pages.Tie as tie
+use Rattle.cases.proofs.fill.Statement.{statement}
+use Rattle.cases.proofs.fill.Tie as tie
 
 abbrev Inv-loop : tie.InvT-loop
-Inv-loop cat₀ disk₀ end id₀ cat disk id = (length cat ≡ length cat₀) × (length disk ≡ length disk₀)
+Inv-loop cat₀ disk₀ end content id₀ cat disk id = (length cat ≡ length cat₀) × (length disk ≡ length disk₀)
 
 abbrev μ-loop : tie.MeasureT-loop
-μ-loop cat₀ disk₀ end id₀ cat disk id = end - id
+μ-loop cat₀ disk₀ end content id₀ cat disk id = end - id
+
+format-requires : tie.Need-format-requires Inv-loop μ-loop
+format-requires c κs = search needs
 
 loop-holds : tie.Need-loop-holds Inv-loop μ-loop
 loop-holds c = (refl, refl)
 
-add-page-requires : tie.Need-add-page-requires Inv-loop μ-loop
-add-page-requires c κs = search needs
+add-requires : tie.Need-add-requires Inv-loop μ-loop
+add-requires c κs = search needs
 
 add-id : tie.Need-add-id Inv-loop μ-loop
 add-id c = search needs
@@ -29,10 +31,10 @@ loop-again : tie.Need-loop-again Inv-loop μ-loop
 loop-again c =
     let k = c .before .before .before .before in
     let v = k .before .before .before .before .loop .inv in
-    (k .add-page .kept .0 ∙ v .0, k .add-page .kept .1 .0 ∙ v .1)
+    (k .add .kept .0 ∙ v .0, k .add .kept .1 .0 ∙ v .1)
 
 same-length : tie.Need-same-length Inv-loop μ-loop
-same-length c = c .before .loop .inv .0
+same-length c = c .before .loop .inv .0 ∙ c .before .before .before .before .format .kept .0
 
 same-length-2 : tie.Need-same-length-2 Inv-loop μ-loop
 same-length-2 c = c .before .loop .inv .1
@@ -40,14 +42,15 @@ same-length-2 c = c .before .loop .inv .1
 returns : tie.Need-returns Inv-loop μ-loop
 returns c = search needs
 
-pub add-pages-spec : {M : Type 1} → statement M
-add-pages-spec =
+pub fill-spec : {M : Type 1} → statement M
+fill-spec =
     tie.close
     (tie.spec
     Inv-loop
     μ-loop
+    format-requires
     loop-holds
-    add-page-requires
+    add-requires
     add-id
     loop-less
     loop-again

@@ -1,4 +1,4 @@
-// Section arithmetic, by the promises of the crate `section` alone.
+// Section arithmetic, executed by the promises of the crate `section` alone.
 ghost use mathlib.Core.Path.{_≡_};
 ghost use mathlib.Core.Bool.{true};
 ghost use Prim.Native.Nat.{_<_};
@@ -63,7 +63,7 @@ fn print_section(first: u32, length: u32, blocks: u32) {
 }
 
 // Two free sections of case 7: the lower one's buddy is on the disk, and the upper one is not it.
-pub fn check_lower_buddy() {
+fn check_lower_buddy() {
     let height = Height { value: 1 };
     let lower = Section { first: 0, height };
     let upper = Section { first: 6, height };
@@ -72,7 +72,7 @@ pub fn check_lower_buddy() {
 }
 
 // The disks of cases 3 and 7, and numbers that are no section.
-pub fn print_sections() {
+fn print_sections() {
     print_section(0, 256, 261);
     print_section(256, 4, 261);
     print_section(260, 1, 261);
@@ -83,4 +83,9 @@ pub fn print_sections() {
     print_section(14, 4, 16);
     print_section(0, 3, 16);
     print_section(4294967295, 4294967295, 4294967295);
+}
+
+fn main() {
+    check_lower_buddy();
+    print_sections();
 }

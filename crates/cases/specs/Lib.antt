@@ -1,0 +1,3 @@
+-- What the crate's contracts cite. Definitions only.
+pub mod Refusals
+pub mod Store

@@ -12,7 +12,7 @@ use Rattle.layout.specs.Layout.{digit, piecesFrom}
 use Rattle.section.specs.Limits.{greatestDisk, greatestHeight}
 use Rattle.section.specs.Sections.{section}
 use Rattle.section.specs.declared.Section.{Section}
-use Rattle.free_pieces.proofs.PiecesLaid.{pushed}
+use Rattle.free_pieces.proofs.LaidMore.{pushed}
 use Rattle.free_pieces.specs.Free.{freeOf}
 use Rattle.free_pieces.specs.declared.Free.{Free}
 

@@ -1,5 +1,8 @@
 // Adding: the conditions in order, then the pieces, the pages and the new table.
+ghost use mathlib.Core.Path.{_≡_};
+ghost use Prim.Native.Nat.{_*_, _≤_};
 ghost use lib.ListN.{length};
+ghost use Rattle.section.specs.Limits.{blockSize};
 ghost use Rattle.table.specs.Tables.{layoutOf};
 ghost use Rattle.looking.specs.Opened.{Opened};
 ghost use Rattle.calls.specs.Changing.{Makes, addOn};
@@ -30,18 +33,15 @@ fn place_file(disk: &mut [u8], t: Table, id: u32, n: u32, content: &[u8]) -> Tab
     table::with_file(t, e, left)
 }
 
-// An add on a loaded table: the conditions past the catalogue, then the pages and the new table.
-pub fn add_in(disk: &mut [u8], t: Table, id: u16, content: &[u8]) -> Changed
+// An add on a disk as long as its table says, under an id above zero: the other conditions, then the pages and the new
+// table. They stand in a function of their own so that LLVM does not take the last call for a rare one, which would be
+// compiled apart and would copy the table.
+fn add_file(disk: &mut [u8], t: Table, id: u16, content: &[u8]) -> Changed
     requires { ⌜ Opened t ⌝ }
+    requires { ⌜ (length (now disk) ≡ blockSize * t .blocks) × (1 ≤ id) ⌝ }
     ensures { λ r. ⌜ Makes (λ cat. addOn (layoutOf t) id (now (content .entry)) cat (now (disk .entry)))
         (now (disk .exit)) r ⌝ }
 {
-    if disk.len() != Section::BLOCK_SIZE * (t.blocks as usize) {
-        return kept(t, Answer::DiskLength);
-    }
-    if id == 0 {
-        return kept(t, Answer::IdZero);
-    }
     let at = t.find(id as u32);
     if at < t.count {
         return kept(t, Answer::IdThere);
@@ -67,4 +67,19 @@ pub fn add_in(disk: &mut [u8], t: Table, id: u16, content: &[u8]) -> Changed
         changed: true,
         table,
     }
+}
+
+// An add on a loaded table: the conditions past the catalogue, then the pages and the new table.
+pub fn add_in(disk: &mut [u8], t: Table, id: u16, content: &[u8]) -> Changed
+    requires { ⌜ Opened t ⌝ }
+    ensures { λ r. ⌜ Makes (λ cat. addOn (layoutOf t) id (now (content .entry)) cat (now (disk .entry)))
+        (now (disk .exit)) r ⌝ }
+{
+    if disk.len() != Section::BLOCK_SIZE * (t.blocks as usize) {
+        return kept(t, Answer::DiskLength);
+    }
+    if id == 0 {
+        return kept(t, Answer::IdZero);
+    }
+    add_file(disk, t, id, content)
 }

@@ -10,8 +10,10 @@ use crate::kept;
 use looking::Answer;
 use section::Section;
 use table::Table;
+use table::free_merged;
 
-// Merges while a height has two free pieces.
+// Merges while a height has two free pieces. The files are moved where they stand, since a table that is passed on is
+// copied.
 pub fn settle(disk: &mut [u8], table: Table) -> Settled
     requires { ⌜ CanSettle table (length (now disk)) ⌝ }
     ensures { λ r. ⌜ Settles table (now (disk .entry)) (now (disk .exit)) r ⌝ }
@@ -20,13 +22,24 @@ pub fn settle(disk: &mut [u8], table: Table) -> Settled
     let mut copied: u32 = 0;
     let free = t.free;
     let mut p = free.lowest_pair();
-    while p.found {
+    'merges: while p.found {
         let lower = p.lower;
         let upper = p.upper;
         let made = blocks::copy_merge(disk, lower, upper);
         copied += made;
-        t = t.merged(p);
-        let left = t.free;
+        let buddy = lower.buddy();
+        let m = t.count;
+        let mut i: usize = 0;
+        'files: while i < m {
+            let e = t.files[i];
+            if e.place_inside(buddy) < e.count {
+                let moved = e.moved(buddy, upper);
+                t.files[i] = moved;
+            }
+            i += 1;
+        }
+        let left = free_merged(p);
+        t.free = left;
         p = left.lowest_pair();
     }
     Settled { table: t, copied }

@@ -4,4 +4,5 @@ pub mod EachItem
 pub mod Draws
 pub mod Fewer
 pub mod PieceTaken
+pub mod LaidMore
 pub mod PiecesLaid

@@ -13,8 +13,9 @@ use Rattle.section.specs.Limits.{greatestHeight}
 use Rattle.section.specs.Sections.{section}
 use Rattle.section.specs.declared.Section.{Section}
 use Rattle.free_pieces.proofs.Draws.{drawn-not, drawn-there}
+use Rattle.free_pieces.proofs.LaidMore.{Extends}
 use Rattle.free_pieces.proofs.PieceTaken.{stocked-after}
-use Rattle.free_pieces.specs.Allocating.{Extends, allocatedOf, laidPieces, onward, withPieces}
+use Rattle.free_pieces.specs.Allocating.{allocatedOf, laidPieces}
 use Rattle.free_pieces.specs.Free.{freeOf, takenOf}
 use Rattle.free_pieces.specs.Taking.{Stocked, Yields}
 use Rattle.free_pieces.specs.declared.Drawn.{Drawn}
@@ -22,6 +23,18 @@ use Rattle.free_pieces.specs.declared.Free.{Free}
 use Rattle.free_pieces.specs.declared.Laid.{Laid}
 
 -- ---- pieces in front
+
+unfoldable pub withPieces : List Section → Allocated → Allocated
+withPieces [] p = p
+withPieces (s ∷ l) p = withPiece s (withPieces l p)
+
+-- what becomes of p once n's ones below height h are allocated too
+unfoldable pub onward : ℕ → ℕ → Laid → Allocated
+onward n h p =
+    elim (p .ok) as (λ _. Allocated) [
+      | true ↦ withPieces (laidPieces p) (allocate (suc greatestHeight - h) h n (freeOf (p .free)))
+      | false ↦ tooFew
+    ]
 
 with-last : (l : List Section) (s : Section) (p : Allocated)
     → withPieces (l ++ (s ∷ [])) p ≡ withPieces l (withPiece s p)
@@ -96,8 +109,14 @@ module _ (n h : ℕ) (l : h ≤ greatestHeight) (free : List Section) where
   unfolding from
   take-one e = step ∙ ap from e
 
-pub onward-failed : (n h : ℕ) (p : Laid) → p .ok ≡ false → onward n h p ≡ onward n (h + 1) p
-onward-failed n h p e = onward-not n h p e ∙ sym (onward-not n (h + 1) p e)
+-- nothing is allocated once a piece was not found
+pub onward-failed : (n h : ℕ) (p : Laid) → p .ok ≡ false → allocatedOf p ≡ onward n h p
+unfolding allocatedOf
+onward-failed n h p e = ap (λ t. elim t as (λ _. Allocated) [
+  | true ↦ allocated (laidPieces p) (freeOf (p .free))
+  | false ↦ tooFew
+]) e
+    ∙ sym (onward-not n h p e)
 
 pub onward-skip : (n h : ℕ) (p : Laid) → h ≤ greatestHeight → p .ok ≡ true → digit h n ≡ 0
     → onward n h p ≡ onward n (h + 1) p
@@ -158,7 +177,3 @@ pub onward-start : (n : ℕ) (f : Free)
     ≡ allocate 0 (suc greatestHeight) n (freeOf f)
 unfolding onward withPieces
 onward-start n f = refl
-
-pub pushed : (p : List Section) (m : ℕ) (s : Section) → m < length p
-    → take (m + 1) (set p m s) ≡ take m p ++ (s ∷ [])
-pushed p m s h = rw add-one (take-suc-set p m s h)

@@ -1,9 +1,6 @@
 // The two free pieces to merge: the lowest two of the lowest height that has two.
-ghost use mathlib.Core.Path.{_≡_};
-ghost use Prim.Native.Nat.{ℕ, suc, _+_, _<_, _≤_};
+ghost use Prim.Native.Nat.{suc, _≤_};
 ghost use Rattle.section.specs.Limits.{greatestHeight};
-ghost use Rattle.layout.specs.Layout.{ofHeight};
-ghost use Rattle.layout.specs.Lists.{sumOf};
 ghost use Rattle.layout.specs.Removing.{mergePair};
 ghost use Rattle.free_pieces.specs.Free.{freePlaces, freeOf, Pairs, lowestPair};
 use crate::Free;
@@ -12,25 +9,6 @@ use section::Height;
 use section::Section;
 
 impl Free {
-    // How many pieces have height `h`.
-    fn of_height(self, h: u32) -> usize
-        requires { ⌜ self .count ≤ freePlaces ⌝ }
-        ensures { λ r. ⌜ r ≡ sumOf (ofHeight h) (freeOf self) ⌝ }
-    {
-        let m = self.count;
-        let mut n: usize = 0;
-        let mut j: usize = 0;
-        while j < m {
-            let s = self.items[j];
-            let height = s.height;
-            if height.value == h {
-                n += 1;
-            }
-            j += 1;
-        }
-        n
-    }
-
     // The two lowest pieces of height `h`, and the others.
     pub fn lowest_two(self, h: u32) -> Pair
         requires { ⌜ self .count ≤ freePlaces ⌝ }
@@ -58,7 +36,8 @@ impl Free {
         }
     }
 
-    // The two lowest pieces of the lowest height that has two, and the others.
+    // The two lowest pieces of the lowest height that has two, and the others. The pieces of each height are counted
+    // here, since a list that is passed on is copied.
     pub fn lowest_pair(self) -> Pair
         requires { ⌜ self .count ≤ freePlaces ⌝ }
         ensures { λ r. ⌜ Pairs (self .count) (lowestPair (suc greatestHeight) 0 (freeOf self)) r ⌝ }
@@ -67,9 +46,20 @@ impl Free {
             first: 0,
             height: Height { value: 0 },
         };
+        let m = self.count;
         let mut h: u32 = 0;
-        while h <= Height::GREATEST {
-            if 1 < self.of_height(h) {
+        'heights: while h <= Height::GREATEST {
+            let mut n: usize = 0;
+            let mut j: usize = 0;
+            'pieces: while j < m {
+                let piece = self.items[j];
+                let height = piece.height;
+                if height.value == h {
+                    n += 1;
+                }
+                j += 1;
+            }
+            if 1 < n {
                 let p = self.lowest_two(h);
                 if p.found {
                     return p;

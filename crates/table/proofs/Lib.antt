@@ -5,6 +5,7 @@ pub mod FileLists
 pub mod FreeLists
 pub mod Released
 pub mod MergedTable
+pub mod FilesMoving
 pub mod NextPair
 pub mod ReadyPairs
 pub mod TableSteps

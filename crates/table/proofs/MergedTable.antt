@@ -1,8 +1,9 @@
 -- A table whose files and free pieces have moved stands for the layout after the merge. Assumes nothing.
 use mathlib.Core.List.{List, map}
-use mathlib.Core.Path.{_∙_, _≡_, ap, ap₂}
-use Prim.Native.Nat.{ℕ}
-use lib.ListN.{take}
+use mathlib.Core.Path.{_∙_, _≡_, ap, ap₂, refl, subst, sym}
+use Prim.Native.Nat.{_+_, ℕ}
+use native.Mathlib.Omega.{arith}
+use lib.ListN.{length, take}
 use Rattle.layout.specs.Layout.{byFirst}
 use Rattle.layout.specs.Lists.{Each, insertBy, sortBy}
 use Rattle.layout.specs.Removing.{merge, movedFile}
@@ -11,7 +12,8 @@ use Rattle.section.specs.declared.Section.{Section}
 use Rattle.table.proofs.FileLists.{files-after}
 use Rattle.table.proofs.MapFirst.{each-mapFirst}
 use Rattle.table.specs.Moves.{mapFirst, movedEntry}
-use Rattle.free_pieces.specs.Free.{freeOf}
+use Rattle.free_pieces.specs.Free.{Lists, freeOf}
+use Rattle.table.specs.Merges.{Merged, Ready, freeAfter}
 use Rattle.table.specs.Tables.{InPlaces, fileOf, filesOf, layoutOf}
 use Rattle.table.specs.declared.Entry.{Entry}
 use Rattle.free_pieces.specs.declared.Pair.{Pair}
@@ -45,3 +47,24 @@ layout-merged t r p b w n c eb ew fe fr = λ j. record { blocks = c j; files = f
 pub counts-kept : (b u : Section) (m : ℕ) {l : List Entry} → Each InPlaces l
     → Each InPlaces (mapFirst (movedEntry b u) m l)
 counts-kept b u m e = each-mapFirst (movedEntry b u) {P = InPlaces} m (λ a p. p) e
+
+-- by parts: the files moved, and the free pieces after the merge
+pub merged-by-parts : (t r : Table) (p : Pair) (b : Section) → Ready t p → b ≡ buddyOf (p .lower)
+    → r .count ≡ t .count → r .blocks ≡ t .blocks
+    → r .files ≡ mapFirst (movedEntry b (p .upper)) (t .count) (t .files)
+    → Lists (p .others .count + 1) (freeAfter p) (r .free)
+    → Merged t p r
+merged-by-parts t r p b a eb n c f w =
+    record {
+      layout = layout-merged t r p (buddyOf (p .lower)) (parentOf (p .lower)) n c refl refl
+          (f ∙ ap (λ (x : Section). mapFirst (movedEntry x (p .upper)) (t .count) (t .files)) eb) (w .list);
+      sized = record {
+        files = omega (arith, n, a .sized .files);
+        free = omega (arith, w .count, a .few);
+        each = subst (Each InPlaces) (sym f) (counts-kept b (p .upper) (t .count) (a .sized .each));
+      };
+      blocks = c;
+      count = n;
+      free = w .count;
+      exact = ap length (w .list) ∙ (w .exact ∙ sym (w .count));
+    }

@@ -1,16 +1,14 @@
 -- What the functions on the files of a table promise. Definitions only.
 use mathlib.Core.Bool.{Bool}
-use mathlib.Core.List.{List, []}
+use mathlib.Core.List.{[]}
 use mathlib.Core.Path.{_≡_}
-use Prim.Native.Nat.{_+_, _-_, ℕ}
+use Prim.Native.Nat.{_+_, ℕ}
 use lib.Dec.{eqb, leb}
-use lib.ListN.{getD, take}
+use lib.ListN.{getD}
 use Rattle.layout.specs.Adding.{withFile}
 use Rattle.layout.specs.Layout.{File}
-use Rattle.layout.specs.Lists.{Each}
-use Rattle.free_pieces.specs.Places.{withAt, withoutAt}
 use Rattle.free_pieces.specs.Free.{freeOf}
-use Rattle.table.specs.Tables.{InPlaces, Sized, layoutOf, piecesIn}
+use Rattle.table.specs.Tables.{Sized, layoutOf, piecesIn}
 use Rattle.table.specs.declared.Entry.{Entry}
 use Rattle.free_pieces.specs.declared.Free.{Free}
 use Rattle.table.specs.declared.Table.{Table}
@@ -28,16 +26,6 @@ noEntry = record { id = 0; count = 0; items = [] }
 
 abbrev pub entryAt : Table → ℕ → Entry
 entryAt t i = getD (t .files) i noEntry
-
--- r is the first m files without the one at place i
-pub record CutFiles (files : List Entry) (m i : ℕ) (r : List Entry) : Type 0 where
-  pub list : take (m - 1) r ≡ withoutAt i (take m files)
-  pub each : Each InPlaces files → Each InPlaces r
-
--- r is the first m files with one more at place i
-pub record PutFiles (files : List Entry) (m i : ℕ) (e : Entry) (r : List Entry) : Type 0 where
-  pub list : take (m + 1) r ≡ withAt i e (take m files)
-  pub each : Each InPlaces files → Each InPlaces r
 
 -- r is the table t with a file more, and the pieces that are free then
 pub record Adds (t : Table) (e : Entry) (free : Free) (r : Table) : Type 0 where

@@ -1,10 +1,13 @@
 -- What a release and a merge ask of a table and what they promise. Definitions only.
+use mathlib.Core.List.{List, map}
 use mathlib.Core.Path.{_≡_}
 use Prim.Native.Nat.{_+_, _<_, ℕ}
 use lib.ListN.{length, take}
-use Rattle.layout.specs.Lists.{Each}
+use Rattle.layout.specs.Layout.{byFirst}
+use Rattle.layout.specs.Lists.{Each, insertBy, sortBy}
 use Rattle.layout.specs.Removing.{merge, release}
-use Rattle.section.specs.Sections.{Addressable, buddyOf}
+use Rattle.section.specs.Sections.{Addressable, buddyOf, movedInto, parentOf}
+use Rattle.section.specs.declared.Section.{Section}
 use Rattle.table.specs.Files.{entryAt}
 use Rattle.table.specs.Moves.{PiecesServed}
 use Rattle.free_pieces.specs.Free.{freeOf, freePlaces}
@@ -30,6 +33,12 @@ pub record Ready (t : Table) (p : Pair) : Type 0 where
   pub files : Each PiecesServed (take (t .count) (t .files))
   pub others : Each Addressable (freeOf (p .others))
   pub few : p .others .count < freePlaces
+
+-- the free pieces when the two of p are merged
+abbrev pub freeAfter : Pair → List Section
+freeAfter p =
+    insertBy byFirst (parentOf (p .lower))
+    (sortBy byFirst (map (movedInto (buddyOf (p .lower)) (p .upper)) (freeOf (p .others))))
 
 -- r is the table t when the two of p are merged
 pub record Merged (t : Table) (p : Pair) (r : Table) : Type 0 where

@@ -11,11 +11,8 @@ mod merges;
 mod moves;
 mod release;
 
-pub use files::files_cut;
-pub use files::files_put;
 pub use files::with_file;
-pub use merges::free_moved;
-pub use moves::files_moved;
+pub use merges::free_merged;
 
 // A file: its id, and its pieces in page order.
 pub struct Entry {

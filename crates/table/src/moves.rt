@@ -11,7 +11,7 @@ use section::Section;
 
 impl Entry {
     // How many pieces stand before the first that lies inside `from`.
-    fn place_inside(self, from: Section) -> usize
+    pub fn place_inside(self, from: Section) -> usize
         requires { ⌜ InPlaces self ⌝ }
         requires { ⌜ Addressable from ⌝ }
         requires { ⌜ PiecesServed self ⌝ }
@@ -49,22 +49,4 @@ impl Entry {
             items,
         }
     }
-}
-
-// The first `m` files with their pieces moved. A file with no piece inside `from` is as it was.
-pub fn files_moved(files: [Entry; 64], m: usize, from: Section, to: Section) -> [Entry; 64]
-    requires { ⌜ m ≤ mostFiles ⌝ }
-    requires { ⌜ CanMoveFiles from to m files ⌝ }
-    ensures { λ r. ⌜ r ≡ mapFirst (movedEntry from to) m files ⌝ }
-{
-    let mut t = files;
-    let mut i: usize = 0;
-    while i < m {
-        let e = t[i];
-        if e.place_inside(from) < e.count {
-            t[i] = e.moved(from, to);
-        }
-        i += 1;
-    }
-    t
 }

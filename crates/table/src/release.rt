@@ -9,7 +9,6 @@ ghost use Rattle.table.specs.Files.{entryAt, hasId};
 ghost use Rattle.table.specs.Merges.{Released};
 use crate::Entry;
 use crate::Table;
-use crate::files::files_cut;
 use free_pieces::Free;
 
 // The free pieces with those of a file.
@@ -36,15 +35,21 @@ impl Table {
         requires { ⌜ i ≡ firstPlace (hasId (entryAt self i .id)) (filesOf self) ⌝ }
         ensures { λ r. ⌜ Released self i r ⌝ }
     {
-        let files = self.files;
+        let m = self.count;
+        let mut files = self.files;
         let e = files[i];
         let old = self.free;
         let free = free_with(old, e);
-        let left = files_cut(files, self.count, i);
+        let mut j = i + 1;
+        while j < m {
+            let x = files[j];
+            files[j - 1] = x;
+            j += 1;
+        }
         Table {
             blocks: self.blocks,
-            count: self.count - 1,
-            files: left,
+            count: m - 1,
+            files,
             free,
         }
     }

@@ -1,72 +1,145 @@
--- `calls::removing::settle` meets its contract: after each turn some of the merges are made, with their copies.
--- Assumes nothing.
-use mathlib.Core.Path.{ap, _∙_, sym}
-use Prim.Native.Nat.{ℕ, _*_}
+-- `calls::removing::settle` meets its contract: after each turn some of the merges are made, with their copies. The
+-- inner loop moves the files of the table for one merge. Assumes nothing.
+use mathlib.Core.Logic.{inl, inr}
+use mathlib.Core.Path.{_≡_, _∙_, ap, refl, subst, sym}
+use Prim.Native.Nat.{ℕ, _*_, _+_, _-_}
 use native.Mathlib.Omega.{arith}
+use lib.ListN.{length}
 use borrow.Author.Needs.{needs}
 use Rattle.section.specs.Limits.{blockSize}
+use Rattle.free_pieces.proofs.Arrays.{length-of-mapped}
 use Rattle.free_pieces.specs.Free.{Pairs, freeOf, lowestPair}
+use Rattle.table.proofs.FilesMoving.{FilesMoving, moving-can, moving-end, moving-free, moving-kept, moving-long}
+use Rattle.table.specs.declared.Table.{Table}
+use Rattle.table.proofs.FilesMoving.{moving-more, moving-places, moving-start}
 use Rattle.calls.proofs.Settling.{Settling, settling-start, settling-ready, settling-copies, settling-more}
 use Rattle.calls.proofs.Settling.{settling-end}
 use Rattle.calls.proofs.removing.settle.Statement.{statement}
 use Rattle.calls.proofs.removing.settle.Tie as tie
 
-abbrev Inv-loop : tie.InvT-loop
-Inv-loop disk₀ t₀ copied₀ p₀ disk t copied p =
+abbrev Inv-files : tie.InvT-files
+Inv-files disk t₀ copied p upper made buddy m i₀ t i = FilesMoving p buddy upper m t₀ t i
+
+abbrev μ-files : tie.MeasureT-files
+μ-files disk t₀ copied p upper made buddy m i₀ t i = m - i
+
+abbrev Inv-merges : tie.InvT-merges
+Inv-merges disk₀ t₀ copied₀ p₀ disk t copied p =
     Settling t₀ disk₀ t disk copied × Pairs (t .free .count) (lowestPair 13 0 (freeOf (t .free))) p
+    × (length (t .files) ≡ 64)
 
-abbrev μ-loop : tie.MeasureT-loop
-μ-loop disk₀ t₀ copied₀ p₀ disk t copied p = t .free .count
+abbrev μ-merges : tie.MeasureT-merges
+μ-merges disk₀ t₀ copied₀ p₀ disk t copied p = t .free .count
 
-lowest-pair-requires : tie.Need-lowest-pair-requires Inv-loop μ-loop
+lowest-pair-requires : tie.Need-lowest-pair-requires Inv-files μ-files Inv-merges μ-merges
 lowest-pair-requires c κs = c .before .before .pre .sized .free
 
-loop-holds : tie.Need-loop-holds Inv-loop μ-loop
-loop-holds c =
+merges-holds : tie.Need-merges-holds Inv-files μ-files Inv-merges μ-merges
+merges-holds c =
     let a = c .before .before .before in
-    (settling-start (a .args .table) (a .args .disk .now) (a .pre), c .lowest-pair .ensures)
+    let long : length (a .args .table .files) ≡ 64 = search (needs, length-of-mapped) in
+    (settling-start (a .args .table) (a .args .disk .now) (a .pre), c .lowest-pair .ensures, long)
 
-copy-merge-requires : tie.Need-copy-merge-requires Inv-loop μ-loop
+copy-merge-requires : tie.Need-copy-merge-requires Inv-files μ-files Inv-merges μ-merges
 copy-merge-requires c κs =
-    let v = c .before .before .before .before .loop .inv in
-    settling-copies _ _ _ _ _ (v .0) _ (v .1) (c .before .before .before .loop-test .taken)
+    let v = c .before .before .before .before .merges .inv in
+    settling-copies _ _ _ _ _ (v .0) _ (v .1) (c .before .before .before .merges-test .taken)
 
-add-copied : tie.Need-add-copied Inv-loop μ-loop
+add-copied : tie.Need-add-copied Inv-files μ-files Inv-merges μ-merges
 add-copied c =
-    let v = c .before .before .before .before .before .before .before .loop .inv in
+    let v = c .before .before .before .before .before .before .before .merges .inv in
     omega (arith, v .0 .bounded, c .before .before .copy-merge .ensures .most)
 
-merged-requires : tie.Need-merged-requires Inv-loop μ-loop
-merged-requires c κs =
-    let v = c .before .before .before .before .before .before .before .loop .inv in
-    settling-ready _ _ _ _ _ (v .0) _ (v .1) (c .before .before .before .before .before .before .loop-test .taken)
+buddy-requires : tie.Need-buddy-requires Inv-files μ-files Inv-merges μ-merges
+buddy-requires c κs =
+    let l = c .before .before .before .before .before .before .before .merges in
+    settling-ready _ _ _ _ _ (l .inv .0) _ (l .inv .1) (c .before .before .before .before .before .before .merges-test .taken) .lower .0
 
-lowest-pair-requires-2 : tie.Need-lowest-pair-requires-2 Inv-loop μ-loop
-lowest-pair-requires-2 c κs = c .before .merged .ensures .sized .free
+files-holds : tie.Need-files-holds Inv-files μ-files Inv-merges μ-merges
+files-holds c =
+    let l = c .before .before .before .before .before .before .before .before .merges in
+    let a = settling-ready _ _ _ _ _ (l .inv .0) _ (l .inv .1) (c .before .before .before .before .before .before .before .merges-test .taken) in
+    moving-start (l .p) (c .buddy .result) (l .p .upper) (l .t) a (c .buddy .ensures) refl (l .inv .2)
 
-loop-less : tie.Need-loop-less Inv-loop μ-loop
-loop-less c =
-    let v = c .before .before .before .before .before .before .before .before .before .before .loop .inv in
-    omega (
-      arith,
-      c .before .before .merged .ensures .free,
-      v .1 .less (c .before .before .before .before .before .before .before .before .before .loop-test .taken),
-    )
+mul-e : tie.Need-mul-e Inv-files μ-files Inv-merges μ-merges
+mul-e c = search needs
 
-loop-again : tie.Need-loop-again Inv-loop μ-loop
-loop-again c =
-    let v = c .before .before .before .before .before .before .before .before .before .before .loop .inv in
-    let k = c .before .before .before .before .before .copy-merge in
-    let m = c .before .before .merged in (
-      settling-more _ _ _ _ _ (v .0) _ (v .1)
-          (c .before .before .before .before .before .before .before .before .before .loop-test .taken) _
-          (k .result) (m .result) (k .ensures) (m .ensures),
+element-copy-out-e : tie.Need-element-copy-out-e Inv-files μ-files Inv-merges μ-merges
+element-copy-out-e c = search needs
+
+place-inside-requires : tie.Need-place-inside-requires Inv-files μ-files Inv-merges μ-merges
+place-inside-requires c κs =
+    let g = c .before .before .files .inv in
+    let lt = c .before .files-test .taken in
+    let a = moving-can _ _ _ _ _ _ _ g lt in
+    (moving-places _ _ _ _ _ _ _ g lt, (a .from, a .pieces))
+
+moved-requires : tie.Need-moved-requires Inv-files μ-files Inv-merges μ-merges
+moved-requires c κs =
+    let g = c .before .before .before .before .before .files .inv in
+    let lt = c .before .before .before .before .files-test .taken in
+    (moving-places _ _ _ _ _ _ _ g lt, moving-can _ _ _ _ _ _ _ g lt)
+
+mul-moved : tie.Need-mul-moved Inv-files μ-files Inv-merges μ-merges
+mul-moved c = search needs
+
+element-set-from-moved : tie.Need-element-set-from-moved Inv-files μ-files Inv-merges μ-merges
+element-set-from-moved c = search needs
+
+add-i : tie.Need-add-i Inv-files μ-files Inv-merges μ-merges
+add-i c = search needs
+
+files-less : tie.Need-files-less Inv-files μ-files Inv-merges μ-merges
+files-less c = search needs
+
+files-again : tie.Need-files-again Inv-files μ-files Inv-merges μ-merges
+files-again c =
+    let l = c .before .before .before .before .before .before .before .before .before .before .before .before .before .before .merges in
+    let f = c .before .before .before .before .before .files in
+    let b = c .before .before .before .before .before .before .buddy .result in
+    let lt = c .before .before .before .before .files-test .taken in
+    let Next : Table → Type 0 = λ r. FilesMoving (l .p) b (l .p .upper) (l .t .count) (l .t) r (f .i + 1) in
+    elim (c .if1 .came) as (λ _. Next (c .if1 .t)) [
+      | inl x ↦ moving-more _ _ _ _ _ _ _ (f .inv) (c .if1 .t) _ lt (ap (λ (r : Table). r .files) (x .2))
+          (x .1 .ensures) (ap (λ (r : Table). r .count) (x .2)) (ap (λ (r : Table). r .blocks) (x .2))
+      | inr x ↦ subst Next (sym (x .1))
+          (moving-kept _ _ _ _ _ _ _ (f .inv) lt
+          (omega (arith, c .before .before .place-inside .ensures .place, x .0 .left)))
+    ]
+
+free-merged-requires : tie.Need-free-merged-requires Inv-files μ-files Inv-merges μ-merges
+free-merged-requires c κs = search needs
+
+lowest-pair-requires-2 : tie.Need-lowest-pair-requires-2 Inv-files μ-files Inv-merges μ-merges
+lowest-pair-requires-2 c κs = search needs
+
+merges-less : tie.Need-merges-less Inv-files μ-files Inv-merges μ-merges
+merges-less c =
+    let v = c .before .before .before .before .before .before .before .before .before .before .before .before .merges .inv in
+    omega (arith, c .before .free-merged .ensures .count, v .1 .less (c .before .before .before .before .before .before .before .before .before .before .before .merges-test .taken))
+
+merges-again : tie.Need-merges-again Inv-files μ-files Inv-merges μ-merges
+merges-again c =
+    let l = c .before .before .before .before .before .before .before .before .before .before .before .before .merges in
+    let f = c .before .before .before .files in
+    let k = c .before .before .before .before .before .before .before .copy-merge in
+    let w = c .before .free-merged in
+    let t : Table = record {
+      blocks = f .t .blocks;
+      count = f .t .count;
+      files = f .t .files;
+      free = w .result;
+    } in
+    let m = moving-end _ _ _ _ _ _ _ (f .inv) (omega (arith, c .before .before .files-test .left)) t refl refl refl (w .ensures) in (
+      settling-more _ _ _ _ _ (l .inv .0) _ (l .inv .1) (c .before .before .before .before .before .before .before .before .before .before .before .merges-test .taken) _ (k .result) t
+          (k .ensures) m,
       c .lowest-pair2 .ensures,
+      moving-long _ _ _ _ _ _ _ (f .inv),
     )
 
-same-length : tie.Need-same-length Inv-loop μ-loop
+same-length : tie.Need-same-length Inv-files μ-files Inv-merges μ-merges
 same-length c =
-    let v = c .before .loop .inv in
+    let v = c .before .merges .inv in
     omega (
       arith,
       v .0 .long,
@@ -74,24 +147,37 @@ same-length c =
       c .before .before .before .before .before .pre .disk,
     )
 
-returns : tie.Need-returns Inv-loop μ-loop
+returns : tie.Need-returns Inv-files μ-files Inv-merges μ-merges
 returns c =
-    let v = c .before .loop .inv in
-    settling-end _ _ _ _ _ (v .0) _ (v .1) (c .loop-test .left)
+    let v = c .before .merges .inv in
+    settling-end _ _ _ _ _ (v .0) _ (v .1) (c .merges-test .left)
 
 pub settle-spec : {M : Type 1} → statement M
 settle-spec =
     tie.close
     (tie.spec
-    Inv-loop
-    μ-loop
+    Inv-files
+    μ-files
+    Inv-merges
+    μ-merges
     lowest-pair-requires
-    loop-holds
+    merges-holds
     copy-merge-requires
     add-copied
-    merged-requires
+    buddy-requires
+    files-holds
+    mul-e
+    element-copy-out-e
+    place-inside-requires
+    moved-requires
+    mul-moved
+    element-set-from-moved
+    add-i
+    files-less
+    files-again
+    free-merged-requires
     lowest-pair-requires-2
-    loop-less
-    loop-again
+    merges-less
+    merges-again
     same-length
     returns)

@@ -1,82 +1,131 @@
--- `Free::lowest_pair` takes the pair of the lowest height that has two, as the definition does. The loop's
--- invariant:
--- the pair of the heights from `h` up is that of all heights. Assumes nothing.
+-- `Free::lowest_pair` takes the pair of the lowest height that has two, as the definition does. The outer loop's
+-- invariant: the pair of the heights from `h` up is that of all heights. The inner loop counts the pieces of height
+-- `h`: after `j` turns those among the first `j`. Assumes nothing.
 use mathlib.Core.Bool.{false}
 use mathlib.Core.Logic.{inl, inr}
-use mathlib.Core.Path.{_∙_, _≡_, refl}
+use mathlib.Core.Path.{_∙_, _≡_, ap, refl}
 use Prim.Native.Nat.{_+_, _-_, _≤_, ℕ}
 use native.Mathlib.Omega.{arith}
-use lib.ListN.{length}
+use lib.ListN.{length, take}
 use lib.Seq.{length-take-le}
 use borrow.Author.Needs.{needs}
+use Rattle.layout.proofs.Splitting.{countOf}
 use Rattle.section.specs.Sections.{section}
 use Rattle.free_pieces.proofs.Arrays.{length-of-mapped}
 use Rattle.free_pieces.proofs.Draws.{pair-end, pair-here, pair-on}
-use Rattle.free_pieces.proofs.Fewer.{few-pair}
+use Rattle.free_pieces.proofs.Fewer.{count-other, count-same, few-pair}
 use Rattle.free_pieces.specs.Free.{freeOf, lowestPair, pairOf}
 use Rattle.free_pieces.proofs.Free.lowest_pair.Statement.{statement}
 use Rattle.free_pieces.proofs.Free.lowest_pair.Tie as tie
 
-abbrev Inv-loop : tie.InvT-loop
-Inv-loop self s h₀ h = (h ≤ 13) × (lowestPair (13 - h) h (freeOf self) ≡ lowestPair 13 0 (freeOf self))
+abbrev Inv-pieces : tie.InvT-pieces
+Inv-pieces self s m h n₀ j₀ n j =
+    (length (self .items) ≡ 26) × (m ≡ self .count) × (m ≤ 26) × (j ≤ m) × (n ≤ j)
+    × (n ≡ countOf h (take j (self .items)))
 
-abbrev μ-loop : tie.MeasureT-loop
-μ-loop self s h₀ h = 13 - h
+abbrev μ-pieces : tie.MeasureT-pieces
+μ-pieces self s m h n₀ j₀ n j = m - j
 
-loop-holds : tie.Need-loop-holds Inv-loop μ-loop
-loop-holds c = (omega arith, refl)
+abbrev Inv-heights : tie.InvT-heights
+Inv-heights self s m h₀ h =
+    (length (self .items) ≡ 26) × (m ≡ self .count) × (h ≤ 13)
+    × (lowestPair (13 - h) h (freeOf self) ≡ lowestPair 13 0 (freeOf self))
 
-of-height-requires : tie.Need-of-height-requires Inv-loop μ-loop
-of-height-requires c κs = search needs
+abbrev μ-heights : tie.MeasureT-heights
+μ-heights self s m h₀ h = 13 - h
 
-lowest-two-requires : tie.Need-lowest-two-requires Inv-loop μ-loop
+heights-holds : tie.Need-heights-holds Inv-pieces μ-pieces Inv-heights μ-heights
+heights-holds c =
+    let e : length (c .args .t1 .items) ≡ 26 = search (needs, length-of-mapped) in
+    (e, refl, omega arith, refl)
+
+pieces-holds : tie.Need-pieces-holds Inv-pieces μ-pieces Inv-heights μ-heights
+pieces-holds c = (c .before .heights .inv .0, refl, c .before .before .pre, omega arith, omega arith, refl)
+
+mul-piece : tie.Need-mul-piece Inv-pieces μ-pieces Inv-heights μ-heights
+mul-piece c = search needs
+
+element-copy-out-piece : tie.Need-element-copy-out-piece Inv-pieces μ-pieces Inv-heights μ-heights
+element-copy-out-piece c = search needs
+
+add-n : tie.Need-add-n Inv-pieces μ-pieces Inv-heights μ-heights
+add-n c = search needs
+
+add-j : tie.Need-add-j Inv-pieces μ-pieces Inv-heights μ-heights
+add-j c = search needs
+
+pieces-less : tie.Need-pieces-less Inv-pieces μ-pieces Inv-heights μ-heights
+pieces-less c = search needs
+
+pieces-again : tie.Need-pieces-again Inv-pieces μ-pieces Inv-heights μ-heights
+pieces-again c =
+    let items = c .before .before .before .before .before .before .before .before .args .t1 .items in
+    let h = c .before .before .before .before .before .before .before .heights .h in
+    let l = c .before .before .before .before .before .pieces in
+    let v = l .inv in
+    let next = elim (c .if1 .came)
+    as (λ _. (c .if1 .n ≤ l .j + 1) × (c .if1 .n ≡ countOf h (take (l .j + 1) items))) [
+      | inl x ↦ (
+        omega (arith, x .1, v .4),
+        x .1 ∙ count-same h items (l .j) (section 0 0) (omega arith) (l .n) (v .5) (x .0 .taken),
+      )
+      | inr x ↦ (
+        omega (arith, x .1, v .4),
+        x .1 ∙ count-other h items (l .j) (section 0 0) (omega arith) (l .n) (v .5) (x .0 .left),
+      )
+    ] in
+    (v .0, refl, v .2, omega arith, next .0, next .1)
+
+lowest-two-requires : tie.Need-lowest-two-requires Inv-pieces μ-pieces Inv-heights μ-heights
 lowest-two-requires c κs = search needs
 
-returns : tie.Need-returns Inv-loop μ-loop
+returns : tie.Need-returns Inv-pieces μ-pieces Inv-heights μ-heights
 returns c =
-    let b = c .before .before .before .before .before in
+    let self = c .before .before .before .before .before .before .before .args .t1 in
+    let l = c .before .before .before .before .before .before .heights in
     let p = c .before .lowest-two in
     record {
       meaning =
-          pair-here (13 - (b .loop .h + 1)) (b .loop .h) (freeOf (b .before .args .self)) (p .result)
-          (p .ensures .meaning) (13 - b .loop .h) (omega arith) (c .if2 .taken)
-          ∙ b .loop .inv .1;
+          pair-here (13 - (l .h + 1)) (l .h) (freeOf self) (p .result) (p .ensures .meaning) (13 - l .h) (omega arith) (c .if3 .taken)
+          ∙ l .inv .3;
       exact = p .ensures .exact;
       less = p .ensures .less;
     }
 
-add-h : tie.Need-add-h Inv-loop μ-loop
+add-h : tie.Need-add-h Inv-pieces μ-pieces Inv-heights μ-heights
 add-h c = search needs
 
-loop-less : tie.Need-loop-less Inv-loop μ-loop
-loop-less c = search needs
+heights-less : tie.Need-heights-less Inv-pieces μ-pieces Inv-heights μ-heights
+heights-less c = search needs
 
-loop-again : tie.Need-loop-again Inv-loop μ-loop
-unfolding pairOf
-loop-again c =
-    let b = c .before .before .before in
-    let self = b .before .args .self in
+heights-again : tie.Need-heights-again Inv-pieces μ-pieces Inv-heights μ-heights
+unfolding pairOf freeOf
+heights-again c =
+    let self = c .before .before .before .before .before .args .t1 in
     let free = freeOf self in
-    let h = b .loop .h in
+    let l = c .before .before .before .before .heights in
+    let h = l .h in
+    let k = c .before .before .pieces in
     let s = section 0 0 in
-    let next = elim (c .if1 .came) as (λ _. lowestPair (13 - (h + 1)) (h + 1) free ≡ lowestPair (13 - h) h free) [
+    let all : k .j ≡ self .count = omega (arith, k .inv .3, c .before .pieces-test .left) in
+    let count : k .n ≡ countOf h free = k .inv .5 ∙ ap (λ i. countOf h (take i (self .items))) all in
+    let next = elim (c .if2 .came) as (λ _. lowestPair (13 - (h + 1)) (h + 1) free ≡ lowestPair (13 - h) h free) [
       | inl x ↦ pair-on (13 - (h + 1)) h free (x .1 .result) (x .1 .ensures .meaning) (13 - h) (h + 1) (omega arith)
           (omega arith) (x .2 .left)
       | inr x ↦ pair-on (13 - (h + 1)) h free (record { found = false; lower = s; upper = s; others = self })
-          (few-pair h free (omega (arith, c .before .of-height .ensures, x .left))) (13 - h) (h + 1) (omega arith)
+          (few-pair h free (omega (arith, count, x .left))) (13 - h) (h + 1) (omega arith)
           (omega arith) refl
     ] in
-    (omega arith, next ∙ b .loop .inv .1)
+    (l .inv .0, refl, omega arith, next ∙ l .inv .3)
 
-returns-2 : tie.Need-returns-2 Inv-loop μ-loop
+returns-2 : tie.Need-returns-2 Inv-pieces μ-pieces Inv-heights μ-heights
 unfolding pairOf freeOf
 returns-2 c =
-    let b = c .before in
-    let e : length (b .before .args .self .items) ≡ 26 = search (needs, length-of-mapped) in
+    let self = c .before .before .args .t1 in
+    let l = c .before .heights in
     record {
-      meaning =
-          pair-end (13 - b .loop .h) (b .loop .h) (freeOf (b .before .args .self)) (omega arith) ∙ b .loop .inv .1;
-      exact = length-take-le (b .before .args .self .count) (b .before .args .self .items) (omega arith);
+      meaning = pair-end (13 - l .h) (l .h) (freeOf self) (omega arith) ∙ l .inv .3;
+      exact = length-take-le (self .count) (self .items) (omega (arith, l .inv .0, c .before .before .pre));
       less = λ x. let z : _≡_ {A = ℕ} 0 1 = cc in absurd (omega arith);
     }
 
@@ -84,13 +133,21 @@ pub lowest-pair-spec : {M : Type 1} → statement M
 lowest-pair-spec =
     tie.close
     (tie.spec
-    Inv-loop
-    μ-loop
-    loop-holds
-    of-height-requires
+    Inv-pieces
+    μ-pieces
+    Inv-heights
+    μ-heights
+    heights-holds
+    pieces-holds
+    mul-piece
+    element-copy-out-piece
+    add-n
+    add-j
+    pieces-less
+    pieces-again
     lowest-two-requires
     returns
     add-h
-    loop-less
-    loop-again
+    heights-less
+    heights-again
     returns-2)

@@ -1,21 +1,27 @@
 -- `allocate` is the definition. The loop's invariant: what the pieces laid so far and the ones below height `h`
--- come to is what the definition allocates, and there is room for the pieces below `h`. Assumes nothing.
-use mathlib.Core.Path.{_∙_, _≡_, ap, refl}
-use Prim.Native.Nat.{_+_, _-_, _≤_, suc}
+-- come to is what the definition allocates, and there is room for the pieces below `h`. A turn lays a piece if the
+-- quotient by the height's length is odd. Assumes nothing.
+use mathlib.Core.Bool.{false, true}
+use mathlib.Core.Path.{_∙_, _≡_, ap, refl, sym}
+use Prim.Native.Nat.{_%_, _+_, _-_, _/_, _<_, _≤_, suc, ℕ}
 use native.Mathlib.Omega.{arith}
+use lib.ListN.{length, length-set, set}
 use borrow.Author.Needs.{needs}
+use borrow.Author.Tests.{not-false, not-true}
 use Rattle.section.specs.Limits.{greatestHeight}
-use Rattle.free_pieces.proofs.PiecesLaid.{onward-end, onward-start}
-use Rattle.free_pieces.specs.Allocating.{onward}
+use Rattle.free_pieces.proofs.LaidMore.{laid-failed, laid-more}
+use Rattle.free_pieces.proofs.PiecesLaid.{onward, onward-end, onward-failed, onward-skip, onward-start}
+use Rattle.free_pieces.proofs.PiecesLaid.{onward-take, stocked-with}
 use Rattle.free_pieces.specs.Free.{piecePlaces}
 use Rattle.free_pieces.specs.Taking.{Stocked}
+use Rattle.free_pieces.specs.declared.Laid.{Laid}
 use Rattle.free_pieces.proofs.allocating.allocate.Statement.{statement}
 use Rattle.free_pieces.proofs.allocating.allocate.Tie as tie
 
 abbrev Inv-loop : tie.InvT-loop
 Inv-loop n laid₀ h₀ laid h =
-    (h ≤ suc greatestHeight) × (laid .count + h ≤ piecePlaces) × Stocked (laid .free)
-    × (onward n h laid ≡ onward n (suc greatestHeight) laid₀)
+    (h ≤ suc greatestHeight) × (laid .count + h ≤ piecePlaces) × Stocked (laid .free) × (laid .ok ≡ true)
+    × (length (laid .items) ≡ 13) × (onward n h laid ≡ onward n (suc greatestHeight) laid₀)
 
 abbrev μ-loop : tie.MeasureT-loop
 μ-loop n laid₀ h₀ laid h = h
@@ -24,40 +30,117 @@ add-h : tie.Need-add-h Inv-loop μ-loop
 add-h c = search needs
 
 loop-holds : tie.Need-loop-holds Inv-loop μ-loop
-loop-holds c = (omega arith, omega arith, c .pre, refl)
+loop-holds c = (omega arith, omega arith, c .pre, refl, refl, refl)
 
 sub-h : tie.Need-sub-h Inv-loop μ-loop
 sub-h c = search needs
 
-at-height-requires : tie.Need-at-height-requires Inv-loop μ-loop
-at-height-requires c κs =
-    let v = c .before .loop .inv in
-    record { low = omega (arith, c .loop-test .taken); stocked = v .2; room = omega (arith, c .loop-test .taken) }
+length-requires : tie.Need-length-requires Inv-loop μ-loop
+length-requires c κs = omega (arith, c .before .loop .inv .0, c .loop-test .taken)
+
+div-if1 : tie.Need-div-if1 Inv-loop μ-loop
+div-if1 c = search needs
+
+take-piece-requires : tie.Need-take-piece-requires Inv-loop μ-loop
+take-piece-requires c κs =
+    let v = c .before .before .before .before .loop .inv in
+    (omega (arith, v .0, c .before .before .before .loop-test .taken), v .2)
+
+returns : tie.Need-returns Inv-loop μ-loop
+returns c =
+    let a = c .before .before .before .before .before .before .before .before in
+    let l = c .before .before .before .before .before .before .before .loop in
+    let v = l .inv in
+    let d = c .before .before .take-piece in
+    let h = l .h - 1 in
+    let e : h + 1 ≡ l .h = omega (arith, c .before .before .before .before .before .before .loop-test .taken) in
+    let low : h ≤ greatestHeight = omega (arith, v .0, c .before .before .before .before .before .before .loop-test .taken) in
+    let digit = ap (λ (z : ℕ). a .args .n / z % 2) (sym (c .before .before .before .before .before .length .ensures .equal)) ∙ c .before .before .before .before .if1 .taken in
+    let r : Laid = record {
+      ok = false;
+      count = l .laid .count;
+      items = l .laid .items;
+      free = l .laid .free;
+    } in
+    let x = laid-failed (l .laid) (d .result) (not-true _ (c .if2 .taken)) in
+    record {
+      meaning =
+          onward-failed (a .args .n) h r refl
+          ∙ (onward-take (a .args .n) h (l .laid) r (d .result) low (v .3) digit (d .ensures .meaning) x
+          ∙ (ap (λ z. onward (a .args .n) z (l .laid)) e ∙ (v .5 ∙ onward-start (a .args .n) (a .args .free))));
+      count = omega (arith, v .1);
+      stocked = v .2;
+    }
+
+mul-piece : tie.Need-mul-piece Inv-loop μ-loop
+mul-piece c = search needs
+
+element-set-from-piece : tie.Need-element-set-from-piece Inv-loop μ-loop
+element-set-from-piece c = search needs
+
+add-laid : tie.Need-add-laid Inv-loop μ-loop
+add-laid c = search needs
 
 loop-less : tie.Need-loop-less Inv-loop μ-loop
 loop-less c = search needs
 
 loop-again : tie.Need-loop-again Inv-loop μ-loop
 loop-again c =
-    let v = c .before .before .loop .inv in
-    let k = c .at-height .ensures in
-    let h = c .before .before .loop .h in
-    let e : h - 1 + 1 ≡ h = omega (arith, c .before .loop-test .taken) in (
+    let n = c .before .before .before .before .before .before .before .before .before .before .args .n in
+    let l = c .before .before .before .before .before .before .before .before .before .loop in
+    let v = l .inv in
+    let d = c .before .before .before .before .take-piece in
+    let h = l .h - 1 in
+    let e : h + 1 ≡ l .h = omega (arith, c .before .before .before .before .before .before .before .before .loop-test .taken) in
+    let low : h ≤ greatestHeight = omega (arith, v .0, c .before .before .before .before .before .before .before .before .loop-test .taken) in
+    let digit = ap (λ (z : ℕ). n / z % 2) (sym (c .before .before .before .before .before .before .before .length .ensures .equal)) ∙ c .before .before .before .before .before .before .if1 .taken in
+    let found : d .result .found ≡ true = not-false _ (c .before .before .if2 .left) in
+    let r : Laid = record {
+      ok = l .laid .ok;
+      count = l .laid .count + 1;
+      items = set (l .laid .items) (l .laid .count) (d .result .section);
+      free = d .result .rest;
+    } in
+    let room : l .laid .count < length (l .laid .items) = omega (arith, v .1, v .4, c .before .before .before .before .before .before .before .before .loop-test .taken) in
+    let x = laid-more (l .laid) (d .result) (v .3) found room in (
       omega arith,
-      omega (arith, k .room, c .before .loop-test .taken),
-      k .stocked,
-      k .onward
-          ∙ (ap (λ z. onward (c .before .before .before .args .n) z (c .before .before .loop .laid)) e ∙ v .3),
+      omega (arith, v .1, c .before .before .before .before .before .before .before .before .loop-test .taken),
+      stocked-with h (l .laid) r (d .result) (v .2) (d .ensures) x,
+      v .3,
+      length-set (l .laid .items) (l .laid .count) (d .result .section) ∙ v .4,
+      onward-take n h (l .laid) r (d .result) low (v .3) digit (d .ensures .meaning) x
+          ∙ (ap (λ z. onward n z (l .laid)) e ∙ v .5),
     )
 
-returns : tie.Need-returns Inv-loop μ-loop
-returns c =
+loop-less-2 : tie.Need-loop-less-2 Inv-loop μ-loop
+loop-less-2 c = search needs
+
+loop-again-2 : tie.Need-loop-again-2 Inv-loop μ-loop
+loop-again-2 c =
+    let l = c .before .before .before .loop in
+    let n = c .before .before .before .before .args .n in
+    let h = l .h in
+    let v = l .inv in
+    let e : h - 1 + 1 ≡ h = omega (arith, c .before .before .loop-test .taken) in
+    let even : n / (c .before .length .result) % 2 ≡ 0 = omega (arith, c .if1 .left) in
+    let digit = ap (λ (z : ℕ). n / z % 2) (sym (c .before .length .ensures .equal)) ∙ even in (
+      omega arith,
+      omega (arith, v .1),
+      v .2,
+      v .3,
+      v .4,
+      onward-skip n (h - 1) (l .laid) (omega (arith, v .0, c .before .before .loop-test .taken)) (v .3) digit
+          ∙ (ap (λ z. onward n z (l .laid)) e ∙ v .5),
+    )
+
+returns-2 : tie.Need-returns-2 Inv-loop μ-loop
+returns-2 c =
     let v = c .before .loop .inv in
     let e : c .before .loop .h ≡ 0 = omega (arith, c .loop-test .left) in
     record {
       meaning =
           onward-end (c .before .before .args .n) (c .before .loop .h) (c .before .loop .laid) e
-          ∙ (v .3 ∙ onward-start (c .before .before .args .n) (c .before .before .args .free));
+          ∙ (v .5 ∙ onward-start (c .before .before .args .n) (c .before .before .args .free));
       count = omega arith;
       stocked = v .2;
     }
@@ -71,7 +154,15 @@ allocate-spec =
     add-h
     loop-holds
     sub-h
-    at-height-requires
+    length-requires
+    div-if1
+    take-piece-requires
+    returns
+    mul-piece
+    element-set-from-piece
+    add-laid
     loop-less
     loop-again
-    returns)
+    loop-less-2
+    loop-again-2
+    returns-2)

@@ -1,0 +1,139 @@
+-- `calls::adding::add_file` meets its contract: one law for each refusal, and one for the answer. Assumes nothing.
+use native.Mathlib.Omega.{arith}
+use borrow.Author.Needs.{needs}
+use Rattle.calls.proofs.Refusing.{made-as}
+use Rattle.calls.proofs.AddJudged.{answer-add, can-add, refuse-empty, refuse-files, refuse-part}
+use Rattle.calls.proofs.AddJudged.{refuse-space, refuse-there}
+use Rattle.calls.proofs.adding.add_file.Statement.{statement}
+use Rattle.calls.proofs.adding.add_file.Tie as tie
+
+find-requires : tie.Need-find-requires
+find-requires c κs = search needs
+
+kept-requires : tie.Need-kept-requires
+kept-requires c κs = search needs
+
+returns : tie.Need-returns
+returns c =
+    let a = c .before .before .before .before .before .before in
+    let p = c .before .before .before .find in
+    made-as (c .kept .ensures)
+    (refuse-there (a .args .t) (a .pre .0) (a .args .id) (a .args .content .now) (a .args .disk .now) (a .pre .1 .0)
+    (λ z. omega (arith, a .pre .1 .1)) (p .result) (p .ensures)
+    (c .before .if1 .taken))
+
+kept-requires-2 : tie.Need-kept-requires-2
+kept-requires-2 c κs = search needs
+
+returns-2 : tie.Need-returns-2
+returns-2 c =
+    let a = c .before .before .before .before .before .before .before in
+    let p = c .before .before .before .before .find in
+    made-as (c .kept2 .ensures)
+    (refuse-empty (a .args .t) (a .pre .0) (a .args .id) (a .args .content .now) (a .args .disk .now) (a .pre .1 .0)
+    (λ z. omega (arith, a .pre .1 .1)) (p .result) (p .ensures)
+    (c .before .before .if1 .left)
+    (c .before .if2 .taken))
+
+kept-requires-3 : tie.Need-kept-requires-3
+kept-requires-3 c κs = search needs
+
+returns-3 : tie.Need-returns-3
+returns-3 c =
+    let a = c .before .before .before .before .before .before .before .before in
+    let p = c .before .before .before .before .before .find in
+    made-as (c .kept3 .ensures)
+    (refuse-part (a .args .t) (a .pre .0) (a .args .id) (a .args .content .now) (a .args .disk .now) (a .pre .1 .0)
+    (λ z. omega (arith, a .pre .1 .1)) (p .result) (p .ensures)
+    (c .before .before .before .if1 .left)
+    (c .before .before .if2 .left)
+    (c .before .if3 .taken))
+
+kept-requires-4 : tie.Need-kept-requires-4
+kept-requires-4 c κs = search needs
+
+returns-4 : tie.Need-returns-4
+returns-4 c =
+    let a = c .before .before .before .before .before .before .before .before .before .before in
+    let p = c .before .before .before .before .before .before .before .find in
+    made-as (c .kept4 .ensures)
+    (refuse-files (a .args .t) (a .pre .0) (a .args .id) (a .args .content .now) (a .args .disk .now) (a .pre .1 .0)
+    (λ z. omega (arith, a .pre .1 .1)) (p .result) (p .ensures)
+    (c .before .before .before .before .before .if1 .left)
+    (c .before .before .before .before .if2 .left)
+    (c .before .before .before .if3 .left)
+    (c .before .if4 .taken))
+
+free-in-requires : tie.Need-free-in-requires
+free-in-requires c κs = search needs
+
+cast-if5 : tie.Need-cast-if5
+cast-if5 c = search needs
+
+kept-requires-5 : tie.Need-kept-requires-5
+kept-requires-5 c κs = search needs
+
+returns-5 : tie.Need-returns-5
+returns-5 c =
+    let a = c .before .before .before .before .before .before .before .before .before .before .before .before in
+    let p = c .before .before .before .before .before .before .before .before .before .find in
+    let n = c .before .before .free-in in
+    made-as (c .kept5 .ensures)
+    (refuse-space (a .args .t) (a .pre .0) (a .args .id) (a .args .content .now) (a .args .disk .now) (a .pre .1 .0)
+    (λ z. omega (arith, a .pre .1 .1)) (p .result) (p .ensures)
+    (c .before .before .before .before .before .before .before .if1 .left)
+    (c .before .before .before .before .before .before .if2 .left)
+    (c .before .before .before .before .before .if3 .left)
+    (c .before .before .before .if4 .left)
+    (n .result) (n .ensures)
+    (c .before .if5 .taken))
+
+cast-n : tie.Need-cast-n
+cast-n c = search needs
+
+place-file-requires : tie.Need-place-file-requires
+place-file-requires c κs =
+    let a = c .before .before .before .before .before .before .before .before .before .before .before .before in
+    let p = c .before .before .before .before .before .before .before .before .before .find in
+    let n = c .before .before .free-in in
+    can-add (a .args .t) (a .pre .0) (a .args .id) (a .args .content .now) (a .args .disk .now) (a .pre .1 .0)
+    (λ z. omega (arith, a .pre .1 .1)) (p .result) (p .ensures)
+    (c .before .before .before .before .before .before .before .if1 .left)
+    (c .before .before .before .before .before .before .if2 .left)
+    (c .before .before .before .before .before .if3 .left)
+    (c .before .before .before .if4 .left)
+    (n .result) (n .ensures)
+    (c .before .if5 .left)
+    (omega (arith, a .fits .id .fits))
+
+same-length : tie.Need-same-length
+same-length c = search needs
+
+returns-6 : tie.Need-returns-6
+returns-6 c =
+    let a = c .before .before .before .before .before .before .before .before .before .before .before .before .before .before .before in
+    let k = c .before .before .place-file in
+    answer-add (a .args .t) (a .args .id) _ (a .args .content .now) (a .args .disk .now) _ (k .result)
+    (place-file-requires (c .before .before .before) (a .κs)) (k .ensures)
+
+pub add-file-spec : {M : Type 1} → statement M
+add-file-spec =
+    tie.close
+    (tie.spec
+    find-requires
+    kept-requires
+    returns
+    kept-requires-2
+    returns-2
+    kept-requires-3
+    returns-3
+    kept-requires-4
+    returns-4
+    free-in-requires
+    cast-if5
+    kept-requires-5
+    returns-5
+    cast-n
+    place-file-requires
+    same-length
+    returns-6)

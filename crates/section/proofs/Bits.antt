@@ -1,14 +1,19 @@
--- What exclusive or, a mask and a shift do to a block number, in sums of powers of two. Assumes nothing.
-use mathlib.Core.Path.{_≡_, sym, ap, ap₂, _∙_}
+-- What exclusive or, masks and a shift do to block numbers, in sums of powers of two. Assumes nothing.
+use mathlib.Core.Path.{_≡_, subst, sym, ap, ap₂, _∙_}
+use mathlib.Core.Bool.{_&&_, false}
 use mathlib.Core.Logic.{inl, inr}
-use Prim.Native.Nat.{ℕ, _+_, _*_, _/_, _%_, _^_, _<_}
+use Prim.Native.Nat.{ℕ, _+_, _-_, _*_, _/_, _%_, _^_, _<_, _≤_}
 use native.Mathlib.Nat.{add-mul, add-zero, mod-eq-of-lt, mod-lt, one-mul, zero-lt-suc}
 use native.Mathlib.Omega.{arith}
-use lib.Bits.{bitXor, differ, xor-block, xor-step, xor-zero-r}
-use lib.Pow.{pow-pos, pow-lt, split}
-use borrow.Author.Tests.{eq-eqb, ne-eqb}
+use lib.Bits.{and-le-l, and-le-r, and-mask, bitAnd, bitOr, bitXor, differ, or-add-and, or-comm, xor-add-and}
+use lib.Bits.{xor-block, xor-comm, xor-self, xor-shr, xor-step, xor-zero-r}
+use lib.Dec.{leb, ltb}
+use lib.Pow.{high, le-ones, pow-mono, pow-pos, pow-lt, shr-lt, split}
+use borrow.Author.Tests.{eq-eqb, le-leb, le-ltb, lt-leb, lt-ltb, ne-eqb}
 use Rattle.section.specs.Sections.{buddyFirst}
-use Rattle.section.proofs.Multiples.{below-or-not}
+use Rattle.section.proofs.Booleans.{and-swap, false-and}
+use Rattle.section.proofs.Multiples.{below-or-not, multiple-whole}
+use Rattle.section.proofs.Nested.{Placed, after, before, inside, nested-or-apart}
 
 -- the lowest bit flipped
 xor-one-even : (q : ℕ) → q % 2 ≡ 0 → bitXor q 1 ≡ q + 1
@@ -52,3 +57,73 @@ xor-length h a =
 -- one shifted left within 32 bits
 pub one-shifted : (h : ℕ) → h < 32 → 1 * 2 ^ h % 2 ^ 32 ≡ 2 ^ h
 one-shifted h l = ap (λ (x : ℕ). x % 2 ^ 32) (one-mul (2 ^ h)) ∙ mod-eq-of-lt (pow-lt l)
+
+-- ---- two block numbers that differ only below the bit of a length
+
+xor-none : (x y : ℕ) → bitXor x y ≡ 0 → x ≡ y
+xor-none x y e = omega (arith, xor-add-and x y, and-le-l x y, and-le-r x y)
+
+xor-low : (k a b : ℕ) → a / 2 ^ k ≡ b / 2 ^ k → bitXor a b < 2 ^ k
+xor-low k a b e =
+    let q : bitXor a b / 2 ^ k ≡ 0 =
+    xor-shr a b k ∙ (ap (λ (x : ℕ). bitXor x (b / 2 ^ k)) e ∙ xor-self (b / 2 ^ k)) in
+    omega (arith, split (bitXor a b) k, ap (λ (x : ℕ). x * 2 ^ k) q, mod-lt (bitXor a b) (pow-pos k))
+
+low-xor : (k a b : ℕ) → bitXor a b < 2 ^ k → a / 2 ^ k ≡ b / 2 ^ k
+low-xor k a b l =
+    let e : k ≡ 0 + k = omega arith in
+    let q : bitXor a b / 2 ^ k ≡ 0 =
+    omega (arith, shr-lt {n = bitXor a b} 0 k (subst (λ (z : ℕ). bitXor a b < 2 ^ z) e l)) in
+    xor-none (a / 2 ^ k) (b / 2 ^ k) (sym (xor-shr a b k) ∙ q)
+
+quotient-within : (k a b : ℕ) → b % 2 ^ k ≡ 0 → b ≤ a → a < b + 2 ^ k → a / 2 ^ k ≡ b / 2 ^ k
+quotient-within k a b m l u =
+    let whole = multiple-whole (2 ^ k) b m in
+    let e : a ≡ b / 2 ^ k * 2 ^ k + (a - b) = omega (arith, whole) in
+    ap (λ (x : ℕ). x / 2 ^ k) e ∙ high (b / 2 ^ k) k {lo = a - b} (omega arith)
+
+within-quotient : (k a b : ℕ) → b % 2 ^ k ≡ 0 → a / 2 ^ k ≡ b / 2 ^ k → (b ≤ a) × (a < b + 2 ^ k)
+within-quotient k a b m e =
+    let whole = multiple-whole (2 ^ k) b m in
+    let same = ap (λ (x : ℕ). x * 2 ^ k) e in (
+      omega (arith, split a k),
+      omega (arith, split a k, mod-lt a (pow-pos k)),
+    )
+
+-- the mask of the longer one has that of the shorter
+mask-or : (g h : ℕ) → g ≤ h → bitOr (2 ^ g - 1) (2 ^ h - 1) ≡ 2 ^ h - 1
+mask-or g h l =
+    let less : 2 ^ g - 1 < 2 ^ h = omega (arith, pow-mono l, pow-pos g) in
+    let both = and-mask (2 ^ g - 1) h ∙ mod-eq-of-lt less in
+    omega (arith, or-add-and (2 ^ g - 1) (2 ^ h - 1))
+
+shared-by-longer : (g h a b : ℕ) → g ≤ h → a % 2 ^ g ≡ 0 → b % 2 ^ h ≡ 0
+    → leb (bitXor a b) (2 ^ h - 1) ≡ (ltb a (b + 2 ^ h) && ltb b (a + 2 ^ g))
+shared-by-longer g h a b l ha hb = go (nested-or-apart g h a b l ha hb)
+  where
+    far : ((b ≤ a) × (a < b + 2 ^ h) → ⊥) → leb (bitXor a b) (2 ^ h - 1) ≡ false
+    far out = elim (below-or-not (bitXor a b) (2 ^ h)) [
+      | inl x ↦ absurd (out (within-quotient h a b hb (low-xor h a b x)))
+      | inr x ↦ lt-leb (bitXor a b) (2 ^ h - 1) (omega (arith, pow-pos h))
+    ]
+
+    go : Placed a (2 ^ g) b (2 ^ h) → leb (bitXor a b) (2 ^ h - 1) ≡ (ltb a (b + 2 ^ h) && ltb b (a + 2 ^ g))
+    go (before u) =
+        far (λ x. omega (arith, x .0, pow-pos g)) ∙ sym (false-and (ltb a (b + 2 ^ h)) (le-ltb b (a + 2 ^ g) u))
+    go (inside u v) =
+        le-leb (bitXor a b) (2 ^ h - 1)
+        (le-ones h (xor-low h a b (quotient-within h a b hb u (omega (arith, pow-pos g)))))
+        ∙ sym (ap₂ (λ x y. x && y) (lt-ltb a (b + 2 ^ h) (omega (arith, pow-pos g)))
+        (lt-ltb b (a + 2 ^ g) (omega (arith, pow-pos g))))
+    go (after u) =
+        far (λ x. omega (arith, x .1)) ∙ sym (ap (λ x. x && ltb b (a + 2 ^ g)) (le-ltb a (b + 2 ^ h) u))
+
+-- two aligned sections share a block where their first blocks differ only below the longer one's bit
+pub shared-by-masks : (g h a b : ℕ) → a % 2 ^ g ≡ 0 → b % 2 ^ h ≡ 0
+    → leb (bitXor a b) (bitOr (2 ^ g - 1) (2 ^ h - 1)) ≡ (ltb a (b + 2 ^ h) && ltb b (a + 2 ^ g))
+shared-by-masks g h a b ha hb =
+    elim (below-or-not g h) [
+      | inl x ↦ ap (leb (bitXor a b)) (mask-or g h (omega arith)) ∙ shared-by-longer g h a b (omega arith) ha hb
+      | inr x ↦ ap₂ leb (xor-comm a b) (or-comm (2 ^ g - 1) (2 ^ h - 1) ∙ mask-or h g x)
+          ∙ (shared-by-longer h g b a x hb ha ∙ and-swap (ltb b (a + 2 ^ g)) (ltb a (b + 2 ^ h)))
+    ]

@@ -24,3 +24,9 @@ false-and false e = refl
 pub and-true-right : (a : Bool) {b : Bool} → b ≡ true → a && b ≡ a
 and-true-right true e = e
 and-true-right false e = refl
+
+pub and-swap : (a b : Bool) → a && b ≡ b && a
+and-swap true true = refl
+and-swap true false = refl
+and-swap false true = refl
+and-swap false false = refl

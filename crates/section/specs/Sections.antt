@@ -3,7 +3,7 @@
 -- numbers.
 use mathlib.Core.Path.{_≡_}
 use mathlib.Core.Logic.{_⊎_}
-use mathlib.Core.Bool.{Bool, cond, _&&_}
+use mathlib.Core.Bool.{Bool, cond, true, _&&_}
 use Prim.Native.Nat.{ℕ, suc, _+_, _-_, _*_, _/_, _%_, _^_, _<_, _≤_}
 use lib.Dec.{eqb, ltb, leb}
 use Rattle.section.specs.Heights.{NoHigher}
@@ -74,6 +74,11 @@ unfoldable pub movedInto : Section → Section → Section → Section
 movedInto b u s = cond (isInside s b) (section (u .first + (s .first - b .first)) (s .height .value)) s
 
 -- ---- numbers that the functions serve
+
+-- the mask of an aligned section: one less than its length
+pub record IsMask (s : Section) (n : ℕ) : Type 0 where
+  pub equal : n ≡ lengthOf s - 1
+  pub aligned : isAligned s ≡ true
 
 -- its end and its parent's end fit a word
 abbrev pub Addressable : Section → Type 0

@@ -4,11 +4,11 @@
 // `is_on_disk` takes any first block and any number of blocks. Every other function asks for what a section of a disk
 // gives: a height up to the greatest, which `of_length` answers, and a first block below 2^31, by `is_on_disk`.
 ghost use mathlib.Core.Path.{_≡_};
-ghost use Prim.Native.Nat.{ℕ, _≤_};
+ghost use Prim.Native.Nat.{ℕ, _-_, _≤_};
 ghost use Rattle.section.specs.Limits.{blockSize, greatestDisk, catalogueSize, greatestHeight, mostFiles};
 ghost use Rattle.section.specs.Heights.{NoHigher, IsLength, heightOf};
 ghost use Rattle.section.specs.Sections.{Addressable, endOf, buddyOf, parentOf, isAligned, isOnDisk, hasBuddy};
-ghost use Rattle.section.specs.Sections.{sharesBlock, isInside, movedInto};
+ghost use Rattle.section.specs.Sections.{IsMask, lengthOf, sharesBlock, isInside, movedInto};
 
 // The height of a section: its length is 2 to the height.
 pub struct Height {
@@ -72,13 +72,21 @@ impl Section {
     // The most files of a catalogue.
     pub const MOST_FILES: usize = 64;
 
+    // The bits below that of the length.
+    pub fn mask(self) -> u32
+        requires { ⌜ NoHigher (self .height) ⌝ }
+        ensures { λ r. ⌜ r ≡ lengthOf self - 1 ⌝ }
+    {
+        let h = self.height;
+        h.length() - 1
+    }
+
     // Whether the first block is a multiple of the length.
     pub fn is_aligned(self) -> bool
         requires { ⌜ NoHigher (self .height) ⌝ }
         ensures { λ r. ⌜ r ≡ isAligned self ⌝ }
     {
-        let h = self.height;
-        let mask = h.length() - 1;
+        let mask = self.mask();
         self.first & mask == 0
     }
 
@@ -141,20 +149,14 @@ impl Section {
         }
     }
 
-    // Whether the two have a block in common: from the first block to the other's last it is less than both lengths
-    // together. A difference below 0 wraps to a great number, so that one comparison tells. The lengths, n and m, are
-    // given, so that who compares many sections finds each length once.
+    // Whether the two have a block in common: their first blocks differ only below the bit of the longer one's length. The
+    // masks, n and m, are given, so that who compares many sections finds each once.
     pub fn shares_block(self, n: u32, other: Section, m: u32) -> bool
-        requires { ⌜ Addressable self ⌝ }
-        requires { ⌜ IsLength (self .height) n ⌝ }
-        requires { ⌜ Addressable other ⌝ }
-        requires { ⌜ IsLength (other .height) m ⌝ }
+        requires { ⌜ IsMask self n ⌝ }
+        requires { ⌜ IsMask other m ⌝ }
         ensures { λ r. ⌜ r ≡ sharesBlock self other ⌝ }
     {
-        let start = self.first + 1;
-        let end = other.first + m;
-        let lengths = n + m;
-        std::num::wrapping_sub_u32(end, start) < lengths - 1
+        self.first ^ other.first <= n | m
     }
 
     // Whether every block of the section is one of the other's.

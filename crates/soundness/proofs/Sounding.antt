@@ -20,7 +20,6 @@ use Rattle.section.specs.Sections.{Addressable}
 use Rattle.section.specs.declared.Section.{Section}
 use Rattle.soundness.proofs.Ordered.{distinct, order-both, order-distinct, order-rises, rising}
 use Rattle.soundness.proofs.Points.{false-true, is-false}
-use Rattle.soundness.proofs.Tested.{piece-addressable}
 use Rattle.soundness.specs.Checking.{idsRise, noneShared, sumsAgree}
 use Rattle.soundness.specs.Counts.{Counted, Exact}
 use Rattle.soundness.specs.Order.{inOrder}
@@ -123,14 +122,6 @@ module _ (t : Table) (sum free : ℕ) (x : Exact t) (y : Counted t sum free) whe
       go true e =
           sym (of-passed (layoutOf t) few (y .sound-files) (y .free-count) (sym agree ∙ a, b, c, d, e))
       go false e = sym (is-false _ (λ v. false-true (sym e ∙ passed v .4)))
-
-  pub all-addressable : (l : List Section) → sumsAgree (t .blocks) sum free ≡ true → onDisk (t .blocks) l ≡ true
-      → Each Addressable l
-  unfolding sumsAgree
-  all-addressable l a d =
-      let w = and-true (leb 1 (t .blocks)) _ a in
-      let z = and-true (leb (t .blocks) 4096) (leb sum (t .blocks) && eqb free (t .blocks - sum)) (w .1) in
-      each-imp (λ s. piece-addressable (t .blocks) s (leb-true (t .blocks) 4096 (z .0))) (every-each _ l d)
 
 pub not-not : (b : Bool) → not (not b) ≡ b
 not-not true = refl

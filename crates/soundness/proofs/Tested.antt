@@ -5,9 +5,8 @@ use mathlib.Core.Path.{_∙_, _≡_, ap, ap₂, refl, subst, sym}
 use Prim.Native.Nat.{_+_, _-_, _<_, _≤_, ℕ}
 use native.Mathlib.Decide.{ℕ-discrete}
 use native.Mathlib.Omega.{arith}
-use lib.Dec.{eqb, ltb}
+use lib.Dec.{eqb, leb, ltb}
 use lib.ListN.{getD, length, take}
-use lib.Pow.{pow-pos}
 use borrow.Author.Count.{below-more}
 use borrow.Author.Tests.{le-leb, le-ltb, lt-leb, lt-ltb, ltb-true}
 use Rattle.catalogue.specs.Reading.{every, pairwise, soundPiece}
@@ -16,9 +15,9 @@ use Rattle.soundness.proofs.Joined.{blankEntry, filesTo}
 use Rattle.soundness.proofs.Points.{pair-fails, pairs-hold}
 use Rattle.soundness.specs.Checking.{idsRise, sumsAgree}
 use Rattle.layout.specs.Layout.{File}
-use Rattle.section.proofs.Answers.{on-disk-iff}
 use Rattle.section.proofs.Booleans.{and-true, and-true-right, false-and}
-use Rattle.section.specs.Sections.{Addressable, isOnDisk}
+use Rattle.section.specs.Heights.{NoHigher}
+use Rattle.section.specs.Sections.{endOf, isAligned, isOnDisk}
 use Rattle.section.specs.declared.Section.{Section}
 use Rattle.table.specs.Tables.{fileOf}
 use Rattle.table.specs.declared.Entry.{Entry}
@@ -102,10 +101,11 @@ high-piece c s h = false-and (isOnDisk c s) (le-ltb (s .height .value) 13 (omega
 pub low-piece : (c : ℕ) (s : Section) → s .height .value ≤ 12 → soundPiece (version1 .heights) c s ≡ isOnDisk c s
 low-piece c s h = and-true-right (isOnDisk c s) (lt-ltb (s .height .value) 13 (omega arith))
 
-pub piece-addressable : (c : ℕ) (s : Section) → c ≤ 4096 → soundPiece (version1 .heights) c s ≡ true → Addressable s
-piece-addressable c s h e =
-    let w = and-true (isOnDisk c s) (ltb (s .height .value) 13) e in
-    let d = on-disk-iff c s .0 (w .0) .1 in (
-      omega (arith, ltb-true (s .height .value) 13 (w .1)),
-      omega (arith, pow-pos (s .height .value)),
-    )
+pub piece-aligned : (c : ℕ) (s : Section) → soundPiece (version1 .heights) c s ≡ true → isAligned s ≡ true
+unfolding isOnDisk
+piece-aligned c s e =
+    and-true (isAligned s) (leb (endOf s) c) (and-true (isOnDisk c s) (ltb (s .height .value) 13) e .0) .0
+
+pub piece-low : (c : ℕ) (s : Section) → soundPiece (version1 .heights) c s ≡ true → NoHigher (s .height)
+piece-low c s e =
+    omega (arith, ltb-true (s .height .value) 13 (and-true (isOnDisk c s) (ltb (s .height .value) 13) e .1))

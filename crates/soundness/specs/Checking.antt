@@ -1,17 +1,18 @@
 -- What the tests on a table that was read promise. Definitions only.
-use mathlib.Core.Bool.{Bool, _&&_, not}
+use mathlib.Core.Bool.{Bool, _&&_, not, true}
 use mathlib.Core.List.{List}
 use mathlib.Core.Path.{_≡_}
 use Prim.Native.Nat.{ℕ, _-_, _<_}
 use lib.Dec.{leb, ltb, eqb}
 use lib.ListN.{getD, length, take}
 use Rattle.section.specs.declared.Section.{Section}
-use Rattle.section.specs.Heights.{IsLength}
 use Rattle.section.specs.Limits.{greatestDisk}
-use Rattle.section.specs.Sections.{section, sharesBlock}
+use Rattle.section.specs.Sections.{IsMask, section, sharesBlock}
 use Rattle.layout.specs.Layout.{File}
-use Rattle.catalogue.specs.Reading.{pairwise}
+use Rattle.catalogue.specs.Reading.{every, pairwise, soundPiece}
+use Rattle.catalogue.specs.Version.{version1}
 use Rattle.soundness.specs.declared.Gathered.{Gathered}
+use Rattle.soundness.specs.declared.Masked.{Masked}
 
 -- the places for the pieces of 64 files and the free ones
 abbrev pub gatheredPlaces : ℕ
@@ -21,11 +22,15 @@ gatheredPlaces = 858
 unfoldable pub piecesOf : Gathered → List Section
 piecesOf g = take (g .count) (g .items)
 
--- l has the lengths of the pieces that were gathered, each at its piece's place
-abbrev pub Lengths : Gathered → List ℕ → Type 0
-Lengths g l =
-    (length l ≡ gatheredPlaces)
-    × ((k : ℕ) → k < g .count → IsLength (getD (g .items) k (section 0 0) .height) (getD l k 0))
+-- l has the masks of the pieces that were gathered, each at its piece's place
+abbrev pub Masks : Gathered → List ℕ → Type 0
+Masks g l =
+    (length l ≡ gatheredPlaces) × ((k : ℕ) → k < g .count → IsMask (getD (g .items) k (section 0 0)) (getD l k 0))
+
+-- whether all pieces are sections of a disk of b blocks, and their masks if they are
+pub record MasksOf (b : ℕ) (g : Gathered) (r : Masked) : Type 0 where
+  pub disk : r .ok ≡ every (soundPiece (version1 .heights) b) (piecesOf g)
+  pub masks : r .ok ≡ true → Masks g (r .masks)
 
 -- C and the blocks of the files and of the free pieces agree
 unfoldable pub sumsAgree : ℕ → ℕ → ℕ → Bool

@@ -1,5 +1,6 @@
 // Whether a table that was read is sound. Sums are tested before blocks that are shared.
 use crate::Gathered;
+use crate::Masked;
 use crate::gather::gathered;
 use crate::order::in_order;
 use section::Section;
@@ -7,12 +8,10 @@ use table::Table;
 ghost use mathlib.Core.Path.{_≡_};
 ghost use mathlib.Core.Bool.{not};
 ghost use Prim.Native.Nat.{_≤_};
-ghost use Rattle.section.specs.Sections.{Addressable};
-ghost use Rattle.layout.specs.Lists.{Each};
 ghost use Rattle.table.specs.Tables.{filesOf, layoutOf};
 ghost use Rattle.catalogue.specs.Version.{version1};
-ghost use Rattle.catalogue.specs.Reading.{every, isSound, soundPiece};
-ghost use Rattle.soundness.specs.Checking.{Lengths, gatheredPlaces, piecesOf};
+ghost use Rattle.catalogue.specs.Reading.{isSound, soundPiece};
+ghost use Rattle.soundness.specs.Checking.{Masks, MasksOf, gatheredPlaces, piecesOf};
 ghost use Rattle.soundness.specs.Checking.{idsRise, noneShared, sumsAgree};
 ghost use Rattle.soundness.specs.Counts.{Counted, Exact};
 
@@ -61,56 +60,40 @@ fn is_piece(section: Section, blocks: u32) -> bool
     section.is_on_disk(blocks)
 }
 
-// Whether all pieces are sections of the disk.
-fn all_on_disk(list: Gathered, blocks: u32) -> bool
+// The mask of each piece, for the comparison of every two, if all of them are sections of the disk.
+fn masks_of(list: Gathered, blocks: u32) -> Masked
     requires { ⌜ list .count ≤ gatheredPlaces ⌝ }
-    ensures { λ r. ⌜ r ≡ every (soundPiece (version1 .heights) blocks) (piecesOf list) ⌝ }
+    ensures { λ r. ⌜ MasksOf blocks list r ⌝ }
 {
     let count = list.count;
+    let mut masks: [u32; 858] = [0; 858];
     let mut i: usize = 0;
     while i < count {
         let section = list.items[i];
         if !is_piece(section, blocks) {
-            return false;
+            return Masked { ok: false, masks };
         }
+        masks[i] = section.mask();
         i += 1;
     }
-    true
-}
-
-// The length of each piece, for the comparison of every two.
-fn lengths_of(list: Gathered) -> [u32; 858]
-    requires { ⌜ (list .count ≤ gatheredPlaces) × Each Addressable (piecesOf list) ⌝ }
-    ensures { λ r. ⌜ Lengths list r ⌝ }
-{
-    let count = list.count;
-    let mut lengths: [u32; 858] = [0; 858];
-    let mut i: usize = 0;
-    while i < count {
-        let section = list.items[i];
-        let height = section.height;
-        lengths[i] = height.length();
-        i += 1;
-    }
-    lengths
+    Masked { ok: true, masks }
 }
 
 // Whether some two pieces share a block.
-fn any_shared(list: Gathered) -> bool
-    requires { ⌜ (list .count ≤ gatheredPlaces) × Each Addressable (piecesOf list) ⌝ }
+fn any_shared(list: Gathered, masks: [u32; 858]) -> bool
+    requires { ⌜ (list .count ≤ gatheredPlaces) × Masks list masks ⌝ }
     ensures { λ r. ⌜ r ≡ not (noneShared (piecesOf list)) ⌝ }
 {
     let count = list.count;
-    let lengths = lengths_of(list);
     let mut found = false;
     let mut i: usize = 0;
     'pairs: while i < count {
         let a = list.items[i];
-        let n = lengths[i];
+        let n = masks[i];
         let mut j = i + 1;
         while j < count {
             let b = list.items[j];
-            let m = lengths[j];
+            let m = masks[j];
             if a.shares_block(n, b, m) {
                 found = true;
                 break 'pairs;
@@ -138,8 +121,10 @@ pub fn is_sound(table: Table, sum: u32, free: u32) -> bool
         return false;
     }
     let all = gathered(table);
-    if !all_on_disk(all, table.blocks) {
+    let masked = masks_of(all, table.blocks);
+    if !masked.ok {
         return false;
     }
-    !any_shared(all)
+    let masks = masked.masks;
+    !any_shared(all, masks)
 }

@@ -14,3 +14,9 @@ pub struct Gathered {
     pub count: usize,
     pub items: [Section; 858],
 }
+
+// The masks of the gathered pieces, if all are sections of the disk.
+pub struct Masked {
+    pub ok: bool,
+    pub masks: [u32; 858],
+}

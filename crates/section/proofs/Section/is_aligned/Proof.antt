@@ -1,6 +1,6 @@
 -- `section::Section::is_aligned` meets its contract: the mask keeps the remainder. Assumes nothing.
 use mathlib.Core.Path.{ap, _∙_}
-use Prim.Native.Nat.{ℕ, _-_}
+use Prim.Native.Nat.{ℕ}
 use lib.Bits.{and-mask, bitAnd}
 use lib.Dec.{eqb}
 use borrow.Author.Needs.{needs}
@@ -8,18 +8,15 @@ use Rattle.section.specs.Sections.{isAligned}
 use Rattle.section.proofs.Section.is_aligned.Statement.{statement}
 use Rattle.section.proofs.Section.is_aligned.Tie as tie
 
-length-requires : tie.Need-length-requires
-length-requires c κs = search needs
-
-sub-mask : tie.Need-sub-mask
-sub-mask c = search needs
+mask-requires : tie.Need-mask-requires
+mask-requires c κs = search needs
 
 returns : tie.Need-returns
 unfolding isAligned
 returns c =
-    let s = c .before .before .before .args .self in
-    let masked = ap (λ (n : ℕ). bitAnd (s .first) (n - 1)) (c .before .length .ensures .equal) in
+    let s = c .before .before .args .self in
+    let masked = ap (bitAnd (s .first)) (c .before .mask .ensures) in
     ap (λ (r : ℕ). eqb r 0) (masked ∙ and-mask (s .first) (s .height .value))
 
 pub is-aligned-spec : {M : Type 1} → statement M
-is-aligned-spec = tie.close (tie.spec length-requires sub-mask returns)
+is-aligned-spec = tie.close (tie.spec mask-requires returns)

@@ -3,45 +3,36 @@ use mathlib.Core.Path.{_≡_, _∙_, sym, ap, refl}
 use mathlib.Core.Bool.{false, not}
 use Prim.Native.Nat.{_-_, _≤_, _<_}
 use native.Mathlib.Omega.{arith}
-use lib.ListN.{length, take}
+use lib.ListN.{length}
 use borrow.Author.Needs.{needs}
-use Rattle.section.specs.Sections.{Addressable}
-use Rattle.layout.specs.Lists.{Each}
-use Rattle.soundness.specs.Checking.{apart, gatheredPlaces, piecesOf}
+use Rattle.soundness.specs.Checking.{Masks, apart, gatheredPlaces, piecesOf}
 use Rattle.free_pieces.proofs.Arrays.{length-of-mapped}
 use Rattle.soundness.proofs.Points.{Row, Rows, blank, pair-fails, row-more, row-start}
 use Rattle.soundness.proofs.Points.{rows-end, rows-more, rows-none}
-use Rattle.free_pieces.proofs.EachItem.{each-taken}
 use Rattle.soundness.proofs.checks.any_shared.Statement.{statement}
 use Rattle.soundness.proofs.checks.any_shared.Tie as tie
 
 abbrev Inv-loop : tie.InvT-loop
-Inv-loop list count lengths found₀ i a n j₀ found j =
-    (found ≡ false) × (count ≤ gatheredPlaces) × (length (list .items) ≡ gatheredPlaces)
-    × Each Addressable (take count (list .items))
+Inv-loop list masks count found₀ i a n j₀ found j =
+    (found ≡ false) × (count ≤ gatheredPlaces) × (length (list .items) ≡ gatheredPlaces) × Masks list masks
     × (i < count) × (i < j) × (j ≤ count) × Rows (list .items) count blank apart i × Row (list .items) blank apart i j
 
 abbrev μ-loop : tie.MeasureT-loop
-μ-loop list count lengths found₀ i a n j₀ found j = count - j
+μ-loop list masks count found₀ i a n j₀ found j = count - j
 
 abbrev Inv-pairs : tie.InvT-pairs
-Inv-pairs list count lengths found₀ i₀ found i =
-    (found ≡ false) × (count ≤ gatheredPlaces) × (length (list .items) ≡ gatheredPlaces)
-    × Each Addressable (take count (list .items))
+Inv-pairs list masks count found₀ i₀ found i =
+    (found ≡ false) × (count ≤ gatheredPlaces) × (length (list .items) ≡ gatheredPlaces) × Masks list masks
     × (i ≤ count) × Rows (list .items) count blank apart i
 
 abbrev μ-pairs : tie.MeasureT-pairs
-μ-pairs list count lengths found₀ i₀ found i = count - i
-
-lengths-of-requires : tie.Need-lengths-of-requires Inv-loop μ-loop Inv-pairs μ-pairs
-lengths-of-requires c κs = search needs
+μ-pairs list masks count found₀ i₀ found i = count - i
 
 pairs-holds : tie.Need-pairs-holds Inv-loop μ-loop Inv-pairs μ-pairs
-unfolding piecesOf
 pairs-holds c =
-    let a = c .before .args .t1 in
+    let a = c .args .t1 in
     let e : length (a .items) ≡ gatheredPlaces = search (needs, length-of-mapped) in
-    (refl, c .before .pre .0, e, c .before .pre .1, omega arith, rows-none (a .items) (a .count) blank apart)
+    (refl, c .pre .0, e, c .pre .1, omega arith, rows-none (a .items) (a .count) blank apart)
 
 mul-a : tie.Need-mul-a Inv-loop μ-loop Inv-pairs μ-pairs
 mul-a c = search needs
@@ -60,18 +51,10 @@ add-j c = search needs
 
 loop-holds : tie.Need-loop-holds Inv-loop μ-loop Inv-pairs μ-pairs
 loop-holds c =
-    let a = c .before .before .before .before .args .t1 in
-    let v = c .before .before .pairs .inv in (
-      v .0,
-      v .1,
-      v .2,
-      v .3,
-      c .before .pairs-test .taken,
-      omega arith,
-      omega arith,
-      v .5,
-      row-start (a .items) (a .count) blank apart (c .before .before .pairs .i),
-    )
+    let l = c .before .before .before .args .t1 in
+    let v = c .before .before .pairs .inv in
+    let start = row-start (l .items) (l .count) blank apart (c .before .before .pairs .i) in
+    (v .0, v .1, v .2, v .3, c .before .pairs-test .taken, omega arith, omega arith, v .5, start)
 
 mul-b : tie.Need-mul-b Inv-loop μ-loop Inv-pairs μ-pairs
 mul-b c = search needs
@@ -87,15 +70,8 @@ array-read-m c = search needs
 
 shares-block-requires : tie.Need-shares-block-requires Inv-loop μ-loop Inv-pairs μ-pairs
 shares-block-requires c κs =
-    let l = c .before .before .before .before .before .before .before .args .t1 in
     let v = c .before .before .loop .inv in
-    let i = c .before .before .before .before .before .pairs .i in
-    let j = c .before .before .loop .j in
-    let n = c .before .before .before .before .before .before .lengths-of .ensures .1 in
-    let q = c .before .loop-test .taken in
-    let a = each-taken (l .items) (l .count) i blank (omega (arith, v .1, v .2)) (v .3) (v .4) in
-    let b = each-taken (l .items) (l .count) j blank (omega (arith, v .1, v .2)) (v .3) q in
-    (a, (n i (v .4), (b, n j q)))
+    (v .3 .1 (c .before .before .before .before .before .pairs .i) (v .4), v .3 .1 (c .before .before .loop .j) (c .before .loop-test .taken))
 
 add-j-2 : tie.Need-add-j-2 Inv-loop μ-loop Inv-pairs μ-pairs
 add-j-2 c = search needs
@@ -105,21 +81,11 @@ loop-less c = search needs
 
 loop-again : tie.Need-loop-again Inv-loop μ-loop Inv-pairs μ-pairs
 loop-again c =
-    let a = c .before .before .before .before .before .before .before .before .before .args .t1 in
-    let v = c .before .before .before .before .loop .inv in (
-      v .0,
-      v .1,
-      v .2,
-      v .3,
-      v .4,
-      omega arith,
-      omega arith,
-      v .7,
-      row-more (a .items) (a .count) blank apart
-          (c .before .before .before .before .before .before .before .pairs .i)
-          (c .before .before .before .before .loop .j) (v .8)
-          (ap not (sym (c .before .shares-block .ensures) ∙ c .if1 .left)),
-    )
+    let l = c .before .before .before .before .before .before .before .before .args .t1 in
+    let v = c .before .before .before .before .loop .inv in
+    let more = row-more (l .items) (l .count) blank apart (c .before .before .before .before .before .before .before .pairs .i) (c .before .before .before .before .loop .j) (v .8)
+    (ap not (sym (c .before .shares-block .ensures) ∙ c .if1 .left)) in
+    (v .0, v .1, v .2, v .3, v .4, omega arith, omega arith, v .7, more)
 
 add-i : tie.Need-add-i Inv-loop μ-loop Inv-pairs μ-pairs
 add-i c = search needs
@@ -129,34 +95,28 @@ pairs-less c = search needs
 
 pairs-again : tie.Need-pairs-again Inv-loop μ-loop Inv-pairs μ-pairs
 pairs-again c =
-    let a = c .before .before .before .before .before .before .args .t1 in
-    let v = c .before .loop .inv in (
-      v .0,
-      v .1,
-      v .2,
-      v .3,
-      omega arith,
-      rows-more (a .items) (a .count) blank apart (c .before .before .before .before .pairs .i) (c .before .loop .j)
-          (c .loop-test .left) (v .7) (v .8),
-    )
+    let l = c .before .before .before .before .before .args .t1 in
+    let v = c .before .loop .inv in
+    let more = rows-more (l .items) (l .count) blank apart (c .before .before .before .before .pairs .i) (c .before .loop .j)
+    (c .loop-test .left) (v .7) (v .8) in
+    (v .0, v .1, v .2, v .3, omega arith, more)
 
 returns : tie.Need-returns Inv-loop μ-loop Inv-pairs μ-pairs
 unfolding piecesOf
 returns c =
-    let a = c .before .before .before .args .t1 in
+    let l = c .before .before .args .t1 in
     let v = c .before .pairs .inv in
     v .0
-    ∙ sym (ap not (rows-end (a .items) (a .count) blank (omega (arith, v .1, v .2)) apart (c .before .pairs .i)
+    ∙ sym (ap not (rows-end (l .items) (l .count) blank (omega (arith, v .1, v .2)) apart (c .before .pairs .i)
     (c .pairs-test .left) (v .5)))
 
 returns-2 : tie.Need-returns-2 Inv-loop μ-loop Inv-pairs μ-pairs
 unfolding piecesOf
 returns-2 c =
-    let a = c .before .before .before .before .before .before .before .before .before .args .t1 in
+    let l = c .before .before .before .before .before .before .before .before .args .t1 in
     let v = c .before .before .before .before .loop .inv in
     sym (ap not
-    (pair-fails (a .items) (a .count) blank (omega (arith, v .1, v .2)) apart
-    (c .before .before .before .before .before .before .before .pairs .i)
+    (pair-fails (l .items) (l .count) blank (omega (arith, v .1, v .2)) apart (c .before .before .before .before .before .before .before .pairs .i)
     (c .before .before .before .before .loop .j) (v .5) (c .before .before .before .loop-test .taken)
     (ap not (sym (c .before .shares-block .ensures) ∙ c .if1 .taken))))
 
@@ -168,7 +128,6 @@ any-shared-spec =
     μ-loop
     Inv-pairs
     μ-pairs
-    lengths-of-requires
     pairs-holds
     mul-a
     element-copy-out-a

@@ -6,7 +6,7 @@ use borrow.Author.Tests.{not-true, not-false}
 use Rattle.catalogue.specs.Version.{version1}
 use Rattle.catalogue.specs.Reading.{every, soundPiece}
 use Rattle.soundness.specs.Checking.{noneShared}
-use Rattle.soundness.proofs.Sounding.{all-addressable, disk-unsound, free-unsound, ids-unsound, not-not}
+use Rattle.soundness.proofs.Sounding.{disk-unsound, free-unsound, ids-unsound, not-not}
 use Rattle.soundness.proofs.Sounding.{shared-left, sums-unsound}
 use Rattle.soundness.proofs.checks.is_sound.Statement.{statement}
 use Rattle.soundness.proofs.checks.is_sound.Tie as tie
@@ -38,45 +38,32 @@ returns-3 c =
 gathered-requires : tie.Need-gathered-requires
 gathered-requires c κs = search needs
 
-all-on-disk-requires : tie.Need-all-on-disk-requires
-all-on-disk-requires c κs = search needs
+masks-of-requires : tie.Need-masks-of-requires
+masks-of-requires c κs = search needs
 
 returns-4 : tie.Need-returns-4
 returns-4 c =
-    let p = c .before .before .before .before .before .before .before .before .before .before .pre in
-    let b =
-    c .before .before .before .before .before .before .before .before .before .before .args .table .blocks in
-    sym (disk-unsound _ _ _ (p .0) (p .1)
-    (sym (ap (every (soundPiece (version1 .heights) b)) (c .before .before .gathered .ensures .1))
-    ∙ (sym (c .before .all-on-disk .ensures) ∙ not-true _ (c .if4 .taken))))
+    let a = c .before .before .before .before .before .before .before .before .before .before .before in
+    sym (disk-unsound _ _ _ (a .pre .0) (a .pre .1)
+    (sym (ap (every (soundPiece (version1 .heights) (a .args .table .blocks))) (c .before .before .before .gathered .ensures .1))
+    ∙ (sym (c .before .before .masks-of .ensures .disk) ∙ not-true _ (c .if4 .taken))))
 
 any-shared-requires : tie.Need-any-shared-requires
 any-shared-requires c κs =
-    let p = c .before .before .before .before .before .before .before .before .before .before .pre in (
-      c .before .before .gathered .ensures .0,
-      all-addressable _ _ _ (p .0) (p .1) _
-          (sym (c .before .before .before .before .before .before .before .before .before .sums-agree .ensures)
-          ∙ not-false _ (c .before .before .before .before .before .before .before .before .if1 .left))
-          (sym (c .before .all-on-disk .ensures) ∙ not-false _ (c .if4 .left)),
-    )
+    (c .before .before .before .before .gathered .ensures .0, c .before .before .before .masks-of .ensures .masks (not-false _ (c .before .if4 .left)))
 
 returns-5 : tie.Need-returns-5
 returns-5 c =
-    let p = c .before .before .before .before .before .before .before .before .before .before .before .pre in
-    let b = c .before .before .before .before .before .before .before .before .before .before .before .args .table
-    .blocks in
+    let a = c .before .before .before .before .before .before .before .before .before .before .before .before .before in
     ap not (c .any-shared .ensures)
     ∙ (not-not _
-    ∙ (ap noneShared (c .before .before .before .gathered .ensures .1)
-    ∙ shared-left _ _ _ (p .0) (p .1)
-    (sym (c .before .before .before .before .before .before .before .before .before .before .sums-agree .ensures)
-    ∙ not-false _ (c .before .before .before .before .before .before .before .before .before .if1 .left))
-    (sym (c .before .before .before .before .before .before .before .before .ids-rise .ensures)
-    ∙ not-false _ (c .before .before .before .before .before .before .before .if2 .left))
-    (sym (c .before .before .before .before .before .in-order .ensures)
-    ∙ not-false _ (c .before .before .before .before .if3 .left))
-    (sym (ap (every (soundPiece (version1 .heights) b)) (c .before .before .before .gathered .ensures .1))
-    ∙ (sym (c .before .before .all-on-disk .ensures) ∙ not-false _ (c .before .if4 .left)))))
+    ∙ (ap noneShared (c .before .before .before .before .before .gathered .ensures .1)
+    ∙ shared-left _ _ _ (a .pre .0) (a .pre .1)
+    (sym (c .before .before .before .before .before .before .before .before .before .before .before .before .sums-agree .ensures) ∙ not-false _ (c .before .before .before .before .before .before .before .before .before .before .before .if1 .left))
+    (sym (c .before .before .before .before .before .before .before .before .before .before .ids-rise .ensures) ∙ not-false _ (c .before .before .before .before .before .before .before .before .before .if2 .left))
+    (sym (c .before .before .before .before .before .before .before .in-order .ensures) ∙ not-false _ (c .before .before .before .before .before .before .if3 .left))
+    (sym (ap (every (soundPiece (version1 .heights) (a .args .table .blocks))) (c .before .before .before .before .before .gathered .ensures .1))
+    ∙ (sym (c .before .before .before .before .masks-of .ensures .disk) ∙ not-false _ (c .before .before .if4 .left)))))
 
 pub is-sound-spec : {M : Type 1} → statement M
 is-sound-spec =
@@ -89,7 +76,7 @@ is-sound-spec =
     in-order-requires
     returns-3
     gathered-requires
-    all-on-disk-requires
+    masks-of-requires
     returns-4
     any-shared-requires
     returns-5)

@@ -2,12 +2,11 @@
 //
 // Each refusal is shown once for each call that gives it, and with each other that can apply together with it: the
 // lower number is returned.
+use case_inputs::refusals;
+use case_inputs::refusals::Call;
+use case_inputs::store;
 use libc::STDOUT_FILENO;
 use looking::Answer;
-use refusals::Call;
-
-mod refusals;
-mod store;
 
 // Writes a word and a number.
 fn print_number(word: &[u8], n: u32) {

@@ -1,7 +1,7 @@
 -- Lengths and numbers of a case in which the refusals x and y apply. Definitions only.
 use mathlib.Core.Bool.{cond}
 use Prim.Native.Nat.{ℕ}
-use Rattle.cases.specs.Refusals.{isOneOf}
+use Rattle.case_inputs.specs.Refusals.{isOneOf}
 
 -- one byte less than a catalogue has
 abbrev pub catalogueLength : ℕ → ℕ → ℕ

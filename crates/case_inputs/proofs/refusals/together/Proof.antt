@@ -1,12 +1,12 @@
--- `cases::refusals::together` meets its contract. Assumes nothing.
+-- `case_inputs::refusals::together` meets its contract. Assumes nothing.
 use mathlib.Core.Bool.{Bool, _||_, false, not, true}
 use mathlib.Core.Path.{_≡_, refl}
 use lib.Dec.{eqb}
 use native.Mathlib.Omega.{arith}
 use borrow.Author.Tests.{eq-eqb, ne-eqb}
-use Rattle.cases.specs.Refusals.{canMeet}
-use Rattle.cases.proofs.refusals.together.Statement.{statement}
-use Rattle.cases.proofs.refusals.together.Tie as tie
+use Rattle.case_inputs.specs.Refusals.{canMeet}
+use Rattle.case_inputs.proofs.refusals.together.Statement.{statement}
+use Rattle.case_inputs.proofs.refusals.together.Tie as tie
 
 or-false : (p : Bool) → not p ≡ not (p || false)
 or-false true = refl

@@ -1,9 +1,9 @@
--- `cases::refusals::gives` meets its contract: the numbers of each call are those of the manager's conditions.
+-- `case_inputs::refusals::gives` meets its contract: the numbers of each call are those of the manager's conditions.
 -- Assumes nothing.
 use borrow.Author.Needs.{needs}
-use Rattle.cases.proofs.ConditionNumbers.{has-refusal}
-use Rattle.cases.proofs.refusals.gives.Statement.{statement}
-use Rattle.cases.proofs.refusals.gives.Tie as tie
+use Rattle.case_inputs.proofs.ConditionNumbers.{has-refusal}
+use Rattle.case_inputs.proofs.refusals.gives.Statement.{statement}
+use Rattle.case_inputs.proofs.refusals.gives.Tie as tie
 
 enum-told : tie.Need-enum-told
 enum-told c = search needs

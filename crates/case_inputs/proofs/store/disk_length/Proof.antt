@@ -1,10 +1,10 @@
--- `cases::store::disk_length` meets its contract. Assumes nothing.
+-- `case_inputs::store::disk_length` meets its contract. Assumes nothing.
 use mathlib.Core.Path.{_∙_, ap}
 use lib.IntN.{pos}
-use Rattle.cases.proofs.Choices.{chosen, not-chosen}
+use Rattle.case_inputs.proofs.Choices.{chosen, not-chosen}
 use borrow.Author.Needs.{needs}
-use Rattle.cases.proofs.store.disk_length.Statement.{statement}
-use Rattle.cases.proofs.store.disk_length.Tie as tie
+use Rattle.case_inputs.proofs.store.disk_length.Statement.{statement}
+use Rattle.case_inputs.proofs.store.disk_length.Tie as tie
 
 is-one-of-requires : tie.Need-is-one-of-requires
 is-one-of-requires c κs = search needs

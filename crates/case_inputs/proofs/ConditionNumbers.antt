@@ -7,9 +7,9 @@ use Rattle.catalogue.specs.Reading.{readCatalogue, sound}
 use Rattle.catalogue.specs.Version.{version1}
 use Rattle.layout.specs.Layout.{Layout}
 use Rattle.manager.specs.Table.{isListed}
-use Rattle.cases.specs.Refusals.{HasRefusal, conditionsOf, numbersIn}
-use Rattle.cases.specs.declared.refusals.Call.{Call}
-use Rattle.cases.specs.declared.refusals.Call.the-variants as Call·
+use Rattle.case_inputs.specs.Refusals.{HasRefusal, conditionsOf, numbersIn}
+use Rattle.case_inputs.specs.declared.refusals.Call.{Call}
+use Rattle.case_inputs.specs.declared.refusals.Call.the-variants as Call·
 
 -- the numbers by call
 abbrev pub numbersOf : Call → List ℕ

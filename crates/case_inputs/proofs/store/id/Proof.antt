@@ -1,9 +1,9 @@
--- `cases::store::id` meets its contract. Assumes nothing.
+-- `case_inputs::store::id` meets its contract. Assumes nothing.
 use mathlib.Core.Path.{_∙_}
-use Rattle.cases.proofs.Choices.{chosen, not-chosen}
+use Rattle.case_inputs.proofs.Choices.{chosen, not-chosen}
 use borrow.Author.Needs.{needs}
-use Rattle.cases.proofs.store.id.Statement.{statement}
-use Rattle.cases.proofs.store.id.Tie as tie
+use Rattle.case_inputs.proofs.store.id.Statement.{statement}
+use Rattle.case_inputs.proofs.store.id.Tie as tie
 
 is-one-of-requires : tie.Need-is-one-of-requires
 is-one-of-requires c κs = search needs

@@ -1,8 +1,8 @@
--- `cases::store::first_page` meets its contract. Assumes nothing.
-use Rattle.cases.proofs.Choices.{chosen, not-chosen}
+-- `case_inputs::store::first_page` meets its contract. Assumes nothing.
+use Rattle.case_inputs.proofs.Choices.{chosen, not-chosen}
 use borrow.Author.Needs.{needs}
-use Rattle.cases.proofs.store.first_page.Statement.{statement}
-use Rattle.cases.proofs.store.first_page.Tie as tie
+use Rattle.case_inputs.proofs.store.first_page.Statement.{statement}
+use Rattle.case_inputs.proofs.store.first_page.Tie as tie
 
 is-one-of-requires : tie.Need-is-one-of-requires
 is-one-of-requires c κs = search needs

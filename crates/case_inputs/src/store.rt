@@ -3,7 +3,7 @@
 // A disk of 66 blocks has the files 1, 2 and 3 of one page, or 1 to 64 of one page where the refusal 10 is to apply.
 ghost use mathlib.Core.Path.{_≡_};
 ghost use lib.IntN.{pos};
-ghost use Rattle.cases.specs.Store.{bufferLength, catalogueLength, diskLength, firstPage, idPassed};
+ghost use Rattle.case_inputs.specs.Store.{bufferLength, catalogueLength, diskLength, firstPage, idPassed};
 use crate::refusals::is_one_of;
 
 // The bytes of the catalogue that are lent.

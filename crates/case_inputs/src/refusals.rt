@@ -2,7 +2,7 @@
 ghost use mathlib.Core.Path.{_≡_};
 ghost use Rattle.manager.specs.Table.{isListed};
 ghost use Rattle.looking.specs.Answers.{replyOf};
-ghost use Rattle.cases.specs.Refusals.{HasRefusal, canMeet, isOneOf, numberIn};
+ghost use Rattle.case_inputs.specs.Refusals.{HasRefusal, canMeet, isOneOf, numberIn};
 use looking::Answer;
 
 // The calls.

@@ -10,8 +10,8 @@ use Rattle.layout.specs.Layout.{Layout}
 use Rattle.manager.specs.Conditions.{Condition, Reply, addConditions, answered, breaksConditions, checkConditions}
 use Rattle.manager.specs.Conditions.{formatConditions, freeConditions, readConditions, refused, removeConditions}
 use Rattle.manager.specs.Table.{isListed}
-use Rattle.cases.specs.declared.refusals.Call.{Call}
-use Rattle.cases.specs.declared.refusals.Call.the-variants as Call·
+use Rattle.case_inputs.specs.declared.refusals.Call.{Call}
+use Rattle.case_inputs.specs.declared.refusals.Call.the-variants as Call·
 
 -- the conditions of a call with the id i, the first page p, the content or output b, the catalogue and the disk
 abbrev pub conditionsOf : Call → ℕ → ℕ → List ℕ → List ℕ → List ℕ → List Condition

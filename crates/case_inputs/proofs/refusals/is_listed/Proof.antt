@@ -1,4 +1,4 @@
--- `cases::refusals::is_listed` meets its contract: what is left of the list has the number exactly if the whole has.
+-- `case_inputs::refusals::is_listed` meets its contract: what is left of the list has the number exactly if the whole has.
 -- Assumes nothing.
 use mathlib.Core.Bool.{Bool, _||_, false, true}
 use mathlib.Core.Path.{_≡_, _∙_, refl, sym, ap}
@@ -12,8 +12,8 @@ use native.Mathlib.Omega.{arith}
 use borrow.Author.Needs.{needs}
 use borrow.Author.Tests.{eq-eqb, ne-eqb}
 use Rattle.manager.specs.Table.{isListed}
-use Rattle.cases.proofs.refusals.is_listed.Statement.{statement}
-use Rattle.cases.proofs.refusals.is_listed.Tie as tie
+use Rattle.case_inputs.proofs.refusals.is_listed.Statement.{statement}
+use Rattle.case_inputs.proofs.refusals.is_listed.Tie as tie
 
 -- the part from i on begins with element i
 from-on : (n : ℕ) (l : List ℕ) (i : ℕ) (t : Bool) → i < length l → eqb n (getD l i 0) ≡ t

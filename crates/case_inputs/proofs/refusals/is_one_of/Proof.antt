@@ -1,11 +1,11 @@
--- `cases::refusals::is_one_of` meets its contract. Assumes nothing.
+-- `case_inputs::refusals::is_one_of` meets its contract. Assumes nothing.
 use mathlib.Core.Bool.{_||_}
 use mathlib.Core.Path.{ap, sym}
 use lib.Dec.{eqb}
 use borrow.Author.Tests.{eq-eqb, ne-eqb}
-use Rattle.cases.specs.Refusals.{isOneOf}
-use Rattle.cases.proofs.refusals.is_one_of.Statement.{statement}
-use Rattle.cases.proofs.refusals.is_one_of.Tie as tie
+use Rattle.case_inputs.specs.Refusals.{isOneOf}
+use Rattle.case_inputs.proofs.refusals.is_one_of.Statement.{statement}
+use Rattle.case_inputs.proofs.refusals.is_one_of.Tie as tie
 
 returns : tie.Need-returns
 unfolding isOneOf

@@ -1,0 +1,3 @@
+// What a case lends and passes to a call so that chosen refusals apply, and which refusals each call gives.
+pub mod refusals;
+pub mod store;

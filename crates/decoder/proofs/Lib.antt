@@ -1,7 +1,7 @@
 -- The laws of the loader, by subject.
 pub mod Places
 pub mod Runs
-pub mod Inserting
+pub mod PageOrder
 pub mod Files
 pub mod Entering
 pub mod EntryRuns

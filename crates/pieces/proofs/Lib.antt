@@ -1,5 +1,4 @@
 -- The laws of a file's pieces, by subject, and the proofs of the functions.
 pub mod PieceOrder
-pub mod Insertion
 pub mod PieceCounts
 pub mod SoundPieces

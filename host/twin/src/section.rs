@@ -45,6 +45,7 @@ impl Section {
         (lower, lower.buddy())
     }
 
+    #[cfg(not(feature = "masks"))]
     pub fn shares_block(self, other: Section) -> bool {
         self.first < other.end() && other.first < self.end()
     }

@@ -1,51 +1,76 @@
--- What the record of all entries holds, read or refused. Assumes nothing.
+-- The array of files, filled entry by entry. Assumes nothing.
 use mathlib.Core.Bool.{false, true}
-use mathlib.Core.List.{List, map}
-use mathlib.Core.Path.{_∙_, _≡_, ap, sym}
-use Prim.Native.Nat.{_*_, _≤_, ℕ}
+use mathlib.Core.List.{List}
+use mathlib.Core.Path.{_∙_, _≡_, ap, ap₂, refl, sym}
+use Prim.Native.Nat.{_*_, _+_, _-_, _<_, _≤_, ℕ}
 use native.Mathlib.Omega.{arith}
-use lib.ListN.{drop, length, take}
-use Rattle.catalogue.specs.Reading.{Read, bad, got}
-use Rattle.decoder.proofs.EntryRuns.{EntriesLeft}
+use lib.ListN.{drop, length, length-set, set, take}
+use Rattle.catalogue.specs.Reading.{bad, got}
+use Rattle.decoder.proofs.EntryRuns.{EntriesLeft, FilesLeft, entry-inside, files-bad, files-end, files-more}
+use Rattle.decoder.proofs.EntryRuns.{files-start, files-sum}
 use Rattle.soundness.proofs.Joined.{filesTo}
-use Rattle.soundness.proofs.Points.{false-true}
-use Rattle.decoder.specs.Entries.{FilesAt, NoFiles, allAccepted, filesIn}
+use Rattle.decoder.specs.Entries.{EntryAt, allAccepted}
 use Rattle.decoder.specs.Fields.{fieldValues}
-use Rattle.decoder.specs.declared.FilesRead.{FilesRead}
-use Rattle.layout.specs.Layout.{File, fileBlocks}
+use Rattle.decoder.specs.declared.EntryRead.{EntryRead}
+use Rattle.free_pieces.proofs.EachItem.{each-set}
+use Rattle.layout.specs.Layout.{fileBlocks}
 use Rattle.layout.specs.Lists.{Each, sumOf}
 use Rattle.section.proofs.Nested.{inside}
 use Rattle.section.specs.Limits.{mostFiles}
-use Rattle.table.specs.Tables.{InPlaces, fileOf}
+use Rattle.table.specs.Tables.{InPlaces}
 use Rattle.table.specs.declared.Entry.{Entry}
 
-pub no-files-at : (s : List ℕ) (n : ℕ) (f : FilesRead) → allAccepted (EntriesLeft n (drop 6 s)) ≡ bad
-    → NoFiles f
-    → FilesAt s n f
-unfolding filesIn
-no-files-at s n f e k =
+-- i of the n files after the header stand in the array, and the others' bytes start at a place
+pub record FilesAt (s : List ℕ) (n : ℕ) (files : List Entry) (at sum i : ℕ) : Type 0 where
+  pub few : i ≤ n
+  pub meaning : FilesLeft s n at i files ≡ allAccepted (EntriesLeft n (drop 6 s))
+  pub pages : sum ≡ sumOf fileBlocks (filesTo i files)
+  pub most : sum ≤ fieldValues * i
+  pub each : Each InPlaces files
+  pub exact : length files ≡ mostFiles
+  pub inside : at ≤ length s
+
+pub filled-start : (s : List ℕ) (n : ℕ) (files : List Entry) → 6 ≤ length s → length files ≡ mostFiles
+    → Each InPlaces files
+    → FilesAt s n files 6 0 0
+filled-start s n files l x p =
     record {
-      meaning =
-          e
-          ∙ sym
-          (ap
-          (λ t. elim t as (λ _. Read (List File)) [
-            | true ↦ got (map fileOf (take n (f .files))) (drop (f .at) s)
-            | false ↦ bad
-          ])
-          (k .0));
-      pages = λ t. false-true (sym (k .0) ∙ t);
-      most = omega (arith, k .1);
-      each = k .4;
-      exact = k .3;
-      inside = omega (arith, k .2);
+      few = omega arith;
+      meaning = files-start s n files;
+      pages = refl;
+      most = omega arith;
+      each = p;
+      exact = x;
+      inside = l;
     }
 
-pub some-files-at : (s : List ℕ) (n sum at : ℕ) (files : List Entry)
-    → allAccepted (EntriesLeft n (drop 6 s)) ≡ got (filesTo n files) (drop at s)
-    → sum ≡ sumOf fileBlocks (filesTo n files) → sum ≤ fieldValues * n → n ≤ mostFiles → Each InPlaces files
-    → length files ≡ mostFiles → at ≤ length s
-    → FilesAt s n (record { ok = true; sum = sum; at = at; files = files })
-unfolding filesIn
-some-files-at s n sum at files e q m h p x l =
-    record { meaning = e; pages = λ _. q; most = omega arith; each = p; exact = x; inside = l }
+module _ (s : List ℕ) (n : ℕ) (files : List Entry) (at sum i : ℕ) (f : FilesAt s n files at sum i) where
+  module _ (h : i < n) (few : n ≤ mostFiles) (e : EntryRead) (q : EntryAt (take (length s - at) (drop at s)) e) where
+    pub filled-inside : at + e .size ≤ length s
+    filled-inside = entry-inside s n at i files h e q (f .inside)
+
+    pub filled-more : e .ok ≡ true
+        → FilesAt s n (set files i (e .entry)) (at + e .size) (sum + e .n) (i + 1)
+    filled-more o =
+        let l : i < length files = omega (arith, f .exact) in
+        record {
+          few = omega arith;
+          meaning = files-more s n at i files h e q o l ∙ f .meaning;
+          pages =
+              ap₂ (λ m n. m + n) (f .pages) (q .pages)
+              ∙ sym (files-sum files i (e .entry) l);
+          most = omega (arith, f .most, q .most);
+          each = each-set i (e .entry) (f .each) (q .places);
+          exact = simp length-set (f .exact);
+          inside = filled-inside;
+        }
+
+    pub filled-bad : e .ok ≡ false → allAccepted (EntriesLeft n (drop 6 s)) ≡ bad
+    filled-bad o = sym (f .meaning) ∙ files-bad s n at i files h e q o
+
+  pub filled-end : i ≡ n → allAccepted (EntriesLeft n (drop 6 s)) ≡ got (filesTo n files) (drop at s)
+  filled-end e =
+      sym (f .meaning) ∙ (ap (λ i. FilesLeft s n at i files) e ∙ files-end s n at files)
+
+  pub filled-sum : i ≡ n → sum ≡ sumOf fileBlocks (filesTo n files)
+  filled-sum e = f .pages ∙ ap (λ i. sumOf fileBlocks (filesTo i files)) e

@@ -15,6 +15,7 @@ use Rattle.decoder.proofs.Early.{acceptable-sound, all-read, restOf, st
 use Rattle.decoder.proofs.EntryRuns.{EntriesLeft}
 use Rattle.decoder.specs.Entries.{allAccepted}
 use Rattle.decoder.specs.Fields.{FieldAt}
+use Rattle.decoder.specs.Loading.{HeaderAt}
 use Rattle.layout.specs.Layout.{File, Layout, fileBlocks}
 use Rattle.layout.specs.Lists.{sumOf}
 use Rattle.section.proofs.Booleans.{false-and}
@@ -23,6 +24,9 @@ use Rattle.section.specs.declared.Section.{Section}
 abbrev headed : Bool → ℕ → ℕ → List ℕ → Read Header
 headed t b k r =
     elim t as (λ _. Read Header) [ true ↦ got (record { blocks = b; count = k }) r | false ↦ bad ]
+
+abbrev after-header : Read Header → Read Layout
+after-header x = then x λ h r. then (EntriesLeft (h .count) r) λ fs r′. restOf (h .blocks) fs r′
 
 module _ (s : List ℕ) (v b k : ℕ) (p : FieldAt s 0 v) (q : FieldAt s 2 b) (w : FieldAt s 4 k) where
   header-at : readHeader version1 s ≡ headed (eqb v 1 && leb k 64) b k (drop 6 s)
@@ -34,9 +38,6 @@ module _ (s : List ℕ) (v b k : ℕ) (p : FieldAt s 0 v) (q : FieldAt s 2 b) (w
       ∙ (ap (λ z. then z λ b r′. then (readField 2 r′) λ k r″. headed (eqb v 1 && leb k 64) b k r″) (q .equal)
       ∙ ap (λ z. then z λ k r″. headed (eqb v 1 && leb k 64) b k r″) (w .equal))
 
-  abbrev after-header : Read Header → Read Layout
-  after-header x = then x λ h r. then (EntriesLeft (h .count) r) λ fs r′. restOf (h .blocks) fs r′
-
   layout-at : (t : Bool) → eqb v 1 && leb k 64 ≡ t → readLayout version1 s ≡ after-header (headed t b k (drop 6 s))
   unfolding readLayout
   layout-at t e = ap after-header (header-at ∙ ap (λ t. headed t b k (drop 6 s)) e)
@@ -45,33 +46,44 @@ module _ (s : List ℕ) (v b k : ℕ) (p : FieldAt s 0 v) (q : FieldAt s 2 b) (w
   unfolding readCatalogue judged
   many-files h = ap (judged version1) (layout-at false (false-and (eqb v 1) (lt-leb k 64 h)))
 
-  module _ (one : v ≡ 1) (few : k ≤ 64) where
-    layout-of : readLayout version1 s ≡ then (EntriesLeft k (drop 6 s)) (restOf b)
-    layout-of = layout-at true (and-intro (eq-eqb v 1 one) (le-leb k 64 few))
+  pub header-of : v ≡ 1 → k ≤ 64 → HeaderAt s b k
+  header-of one few =
+      record {
+        equal =
+            header-at
+            ∙ ap (λ t. headed t b k (drop 6 s)) (and-intro (eq-eqb v 1 one) (le-leb k 64 few));
+        most = q .most;
+        few = few;
+      }
 
-    pub bad-files : allAccepted (EntriesLeft k (drop 6 s)) ≡ bad → readCatalogue version1 s ≡ unsound
-    unfolding readCatalogue
-    bad-files e = ap (judged version1) layout-of ∙ stopped b (EntriesLeft k (drop 6 s)) e
+module _ (s : List ℕ) (b k : ℕ) (h : HeaderAt s b k) where
+  layout-of : readLayout version1 s ≡ then (EntriesLeft k (drop 6 s)) (restOf b)
+  unfolding readLayout
+  layout-of = ap after-header (h .equal)
 
-    module _ (fs : List File) (r : List ℕ) (e : allAccepted (EntriesLeft k (drop 6 s)) ≡ got fs r) where
-      files-got : readLayout version1 s ≡ restOf b fs r
-      files-got = layout-of ∙ ap (λ y. then y (restOf b)) (all-read (EntriesLeft k (drop 6 s)) fs r e .0)
+  pub bad-files : allAccepted (EntriesLeft k (drop 6 s)) ≡ bad → readCatalogue version1 s ≡ unsound
+  unfolding readCatalogue
+  bad-files e = ap (judged version1) layout-of ∙ stopped b (EntriesLeft k (drop 6 s)) e
 
-      pub got-sound : every soundFile fs ≡ true
-      got-sound = acceptable-sound fs (all-read (EntriesLeft k (drop 6 s)) fs r e .1)
+  module _ (fs : List File) (r : List ℕ) (e : allAccepted (EntriesLeft k (drop 6 s)) ≡ got fs r) where
+    files-got : readLayout version1 s ≡ restOf b fs r
+    files-got = layout-of ∙ ap (λ y. then y (restOf b)) (all-read (EntriesLeft k (drop 6 s)) fs r e .0)
 
-      pub bad-free : readPairs (ones (b - sumOf fileBlocks fs)) (version1 .heights) 2 r ≡ bad
-          → readCatalogue version1 s ≡ unsound
-      unfolding readCatalogue judged
-      bad-free z =
-          ap (judged version1)
-          (files-got ∙ ap (λ x. then x λ free r′. got (record { blocks = b; files = fs; free = free }) r′) z)
+    pub got-sound : every soundFile fs ≡ true
+    got-sound = acceptable-sound fs (all-read (EntriesLeft k (drop 6 s)) fs r e .1)
 
-      pub got-layout : (free : List Section) (r′ : List ℕ)
-          → readPairs (ones (b - sumOf fileBlocks fs)) (version1 .heights) 2 r ≡ got free r′
-          → readLayout version1 s ≡ got (record { blocks = b; files = fs; free = free }) r′
-      got-layout free r′ z =
-          files-got ∙ ap (λ x. then x λ free r′. got (record { blocks = b; files = fs; free = free }) r′) z
+    pub bad-free : readPairs (ones (b - sumOf fileBlocks fs)) (version1 .heights) 2 r ≡ bad
+        → readCatalogue version1 s ≡ unsound
+    unfolding readCatalogue judged
+    bad-free z =
+        ap (judged version1)
+        (files-got ∙ ap (λ x. then x λ free r′. got (record { blocks = b; files = fs; free = free }) r′) z)
+
+    pub got-layout : (free : List Section) (r′ : List ℕ)
+        → readPairs (ones (b - sumOf fileBlocks fs)) (version1 .heights) 2 r ≡ got free r′
+        → readLayout version1 s ≡ got (record { blocks = b; files = fs; free = free }) r′
+    got-layout free r′ z =
+        files-got ∙ ap (λ x. then x λ free r′. got (record { blocks = b; files = fs; free = free }) r′) z
 
 other-version : (l : List ℕ) (v : ℕ) (r : List ℕ) → readField 2 l ≡ got v r → (v ≡ 1 → ⊥)
     → readHeader version1 l ≡ bad

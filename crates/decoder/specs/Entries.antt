@@ -1,22 +1,19 @@
--- What reading a file's entry, and all entries, promises. Definitions only.
+-- What reading a file's entry promises. Definitions only.
 use mathlib.Core.Path.{_≡_}
 use mathlib.Core.Bool.{Bool, true, false, _&&_}
-use mathlib.Core.List.{List, [], map}
-use Prim.Native.Nat.{ℕ, _*_, _<_, _≤_}
+use mathlib.Core.List.{List, []}
+use Prim.Native.Nat.{ℕ, _<_, _≤_}
 use lib.Dec.{leb, eqb}
-use lib.ListN.{length, take, drop}
+use lib.ListN.{length, drop}
 use Rattle.section.specs.declared.Section.{Section}
-use Rattle.section.specs.Limits.{mostFiles}
-use Rattle.layout.specs.Lists.{Each, sumOf}
 use Rattle.layout.specs.Layout.{File, blockCount, fileBlocks}
 use Rattle.free_pieces.specs.Free.{piecePlaces}
-use Rattle.table.specs.Tables.{InPlaces, fileOf, piecesIn}
+use Rattle.table.specs.Tables.{fileOf, piecesIn}
 use Rattle.catalogue.specs.Version.{version1}
-use Rattle.catalogue.specs.Reading.{Read, got, bad, every, soundFile, readEntry, readEntries}
+use Rattle.catalogue.specs.Reading.{Read, got, bad, every, soundFile, readEntry}
 use Rattle.soundness.specs.Order.{inOrder}
 use Rattle.decoder.specs.Fields.{fieldBytes, fieldValues}
 use Rattle.decoder.specs.declared.EntryRead.{EntryRead}
-use Rattle.decoder.specs.declared.FilesRead.{FilesRead}
 
 -- a file that a sound layout can have, in the places of an entry
 unfoldable pub acceptable : File → Bool
@@ -49,27 +46,3 @@ pub record EntryAt (s : List ℕ) (e : EntryRead) : Type 0 where
   pub most : e .n < fieldValues
   pub places : e .entry .count ≤ piecePlaces
   pub inside : e .size ≤ length s
-
--- the files that were read, n of them, before the bytes that are left
-unfoldable pub filesIn : ℕ → FilesRead → List ℕ → Read (List File)
-filesIn n f r =
-    elim (f .ok) as (λ _. Read (List File)) [ true ↦ got (map fileOf (take n (f .files))) r | false ↦ bad ]
-
--- f has no files
-abbrev pub NoFiles : FilesRead → Type 0
-NoFiles f =
-    (f .ok ≡ false) × (f .sum ≡ 0) × (f .at ≡ 0) × (length (f .files) ≡ mostFiles) × Each InPlaces (f .files)
-
--- where the entries start
-abbrev pub headerSize : ℕ
-headerSize = 6
-
--- f has the n files after the header
-pub record FilesAt (s : List ℕ) (n : ℕ) (f : FilesRead) : Type 0 where
-  pub meaning :
-      allAccepted (readEntries n (version1 .heights) fieldBytes (drop headerSize s)) ≡ filesIn n f (drop (f .at) s)
-  pub pages : f .ok ≡ true → f .sum ≡ sumOf fileBlocks (map fileOf (take n (f .files)))
-  pub most : f .sum ≤ fieldValues * mostFiles
-  pub each : Each InPlaces (f .files)
-  pub exact : length (f .files) ≡ mostFiles
-  pub inside : f .at ≤ length s

@@ -1,6 +1,5 @@
 // File entries, each read from its own part of the catalogue.
 use crate::EntryRead;
-use crate::FilesRead;
 use crate::fields::read_field;
 use crate::fields::read_pairs;
 use crate::pieces::no_entry;
@@ -9,11 +8,9 @@ use free_pieces::Free;
 use soundness::in_order;
 ghost use mathlib.Core.Path.{_≡_};
 ghost use Prim.Native.Nat.{_≤_};
-ghost use lib.ListN.{length};
-ghost use Rattle.section.specs.Limits.{catalogueSize, mostFiles};
 ghost use Rattle.layout.specs.Layout.{blockCount};
 ghost use Rattle.free_pieces.specs.Free.{freeOf, freePlaces};
-ghost use Rattle.decoder.specs.Entries.{EntryAt, FilesAt, NoFile, NoFiles, isFile};
+ghost use Rattle.decoder.specs.Entries.{EntryAt, NoFile, isFile};
 
 // Whether the pairs of a list, which sum to `sum`, make a file of an id and n blocks.
 fn is_file(id: u32, n: u32, sum: u32, list: Free) -> bool
@@ -72,47 +69,5 @@ pub fn read_entry(s: &[u8]) -> EntryRead
         n,
         size: 4 + 4 * count,
         entry,
-    }
-}
-
-// No files, of a reading that failed.
-fn no_files() -> FilesRead
-    ensures { λ r. ⌜ NoFiles r ⌝ }
-{
-    let entry = no_entry(0);
-    FilesRead {
-        ok: false,
-        sum: 0,
-        at: 0,
-        files: [entry; 64],
-    }
-}
-
-// The entries after the header, `count` of them.
-pub fn read_entries(cat: &[u8], count: usize) -> FilesRead
-    requires { ⌜ (length (now cat) ≡ catalogueSize) × (count ≤ mostFiles) ⌝ }
-    ensures { λ r. ⌜ FilesAt (now (cat .entry)) count r ⌝ }
-{
-    let blank = no_entry(0);
-    let mut files = [blank; 64];
-    let mut at: usize = 6;
-    let mut sum: u32 = 0;
-    let mut i: usize = 0;
-    while i < count {
-        let read = read_entry(&cat[at..]);
-        if !read.ok {
-            return no_files();
-        }
-        let entry = read.entry;
-        files[i] = entry;
-        at += read.size;
-        sum += read.n;
-        i += 1;
-    }
-    FilesRead {
-        ok: true,
-        sum,
-        at,
-        files,
     }
 }

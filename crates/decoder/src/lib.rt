@@ -4,17 +4,14 @@ use section::Section;
 use soundness::is_sound;
 use table::Entry;
 use table::Table;
-use tables::no_table;
 use tables::read_table;
 use zeros::is_zero_from;
 ghost use mathlib.Core.Path.{_≡_};
-ghost use mathlib.Core.Bool.{false};
 ghost use lib.ListN.{length};
 ghost use Rattle.section.specs.Limits.{catalogueSize};
 ghost use Rattle.catalogue.specs.Version.{version1};
 ghost use Rattle.catalogue.specs.Reading.{readCatalogue};
-ghost use Rattle.soundness.specs.Counts.{Exact};
-ghost use Rattle.decoder.specs.Loading.{Ready, readingOf};
+ghost use Rattle.decoder.specs.Loading.{Judged, Ready, TableAt, readingOf};
 
 pub mod entries;
 pub mod fields;
@@ -44,14 +41,6 @@ pub struct EntryRead {
     pub entry: Entry,
 }
 
-// The files of the catalogue, if all were read: the sum of their n, and where the entries end.
-pub struct FilesRead {
-    pub ok: bool,
-    pub sum: u32,
-    pub at: usize,
-    pub files: [Entry; 64],
-}
-
 // The table of the catalogue, if it was read: the blocks of its files and of its free pieces, and where it ends.
 pub struct TableRead {
     pub ok: bool,
@@ -67,32 +56,35 @@ pub struct Loaded {
     pub table: Table,
 }
 
-fn refused() -> Loaded
-    ensures { λ r. ⌜ (r .sound ≡ false) × Exact (r .table) × (r .table .free .count ≡ 0) ⌝ }
+// Whether what was read is a sound table, with zero bytes alone after it.
+fn is_sound_read(cat: &[u8], read: TableRead) -> bool
+    requires { ⌜ TableAt (now cat) read ⌝ }
+    ensures { λ r. ⌜ Judged (now (cat .entry)) (read .table) r ⌝ }
 {
-    let table = no_table();
-    Loaded {
-        sound: false,
-        table,
+    if !read.ok {
+        return false;
     }
+    if !is_zero_from(cat, read.at) {
+        return false;
+    }
+    let table = read.table;
+    is_sound(table, read.sum, read.free)
 }
 
-// The table of a catalogue, if its bytes are sound.
+// The table of a catalogue, if its bytes are sound. One that is not sound keeps no free pieces: the table is passed on
+// in one place, since each one would copy it.
 pub fn load(cat: &[u8]) -> Loaded
     requires { ⌜ length (now cat) ≡ catalogueSize ⌝ }
     ensures reading { λ r. ⌜ readingOf r ≡ readCatalogue version1 (now (cat .entry)) ⌝ }
     ensures ready { λ r. ⌜ Ready (r .table) ⌝ }
 {
     let read = read_table(cat);
-    if !read.ok {
-        return refused();
+    let sound = is_sound_read(cat, read);
+    let mut table = read.table;
+    if !sound {
+        let mut free = table.free;
+        free.count = 0;
+        table.free = free;
     }
-    if !is_zero_from(cat, read.at) {
-        return refused();
-    }
-    let table = read.table;
-    if !is_sound(table, read.sum, read.free) {
-        return refused();
-    }
-    Loaded { sound: true, table }
+    Loaded { sound, table }
 }

@@ -1,6 +1,6 @@
 // The whole catalogue, read into a table.
 use crate::TableRead;
-use crate::entries::read_entries;
+use crate::entries::read_entry;
 use crate::fields::no_section;
 use crate::fields::read_field;
 use crate::fields::read_pairs;
@@ -13,7 +13,7 @@ ghost use Prim.Native.Nat.{_-_, _≤_};
 ghost use lib.ListN.{length};
 ghost use Rattle.section.specs.Limits.{catalogueSize};
 ghost use Rattle.soundness.specs.Counts.{Exact};
-ghost use Rattle.decoder.specs.Loading.{TableAt};
+ghost use Rattle.decoder.specs.Loading.{HeaderAt, TableAt};
 
 // An empty table.
 pub fn no_table() -> Table
@@ -55,6 +55,48 @@ fn left_free(blocks: u32, sum: u32) -> u32
     blocks - sum
 }
 
+// The table after the header: the entries, each read from its own part of the catalogue, and the free pairs. One
+// function fills the array and makes the table, since an array that is passed on is copied.
+fn read_body(cat: &[u8], blocks: u32, count: usize) -> TableRead
+    requires { ⌜ (length (now cat) ≡ catalogueSize) × HeaderAt (now cat) blocks count ⌝ }
+    ensures { λ r. ⌜ TableAt (now (cat .entry)) r ⌝ }
+{
+    let blank = no_entry(0);
+    let mut files = [blank; 64];
+    let mut at: usize = 6;
+    let mut sum: u32 = 0;
+    let mut i: usize = 0;
+    while i < count {
+        let read = read_entry(&cat[at..]);
+        if !read.ok {
+            return unread();
+        }
+        let entry = read.entry;
+        files[i] = entry;
+        at += read.size;
+        sum += read.n;
+        i += 1;
+    }
+    let ones = u32::count_ones(left_free(blocks, sum)) as usize;
+    let pairs = read_pairs(cat, at, ones);
+    if !pairs.ok {
+        return unread();
+    }
+    let list = pairs.list;
+    TableRead {
+        ok: true,
+        sum,
+        free: pairs.sum,
+        at: at + 4 * ones,
+        table: Table {
+            blocks,
+            count,
+            files,
+            free: list,
+        },
+    }
+}
+
 // The table of the catalogue: the header, the entries and the free pairs.
 pub fn read_table(cat: &[u8]) -> TableRead
     requires { ⌜ length (now cat) ≡ catalogueSize ⌝ }
@@ -69,30 +111,5 @@ pub fn read_table(cat: &[u8]) -> TableRead
     if 64 < count {
         return unread();
     }
-    let read = read_entries(cat, count);
-    if !read.ok {
-        return unread();
-    }
-    let sum = read.sum;
-    let at = read.at;
-    let ones = u32::count_ones(left_free(blocks, sum)) as usize;
-    let pairs = read_pairs(cat, at, ones);
-    if !pairs.ok {
-        return unread();
-    }
-    let files = read.files;
-    let list = pairs.list;
-    let table = Table {
-        blocks,
-        count,
-        files,
-        free: list,
-    };
-    TableRead {
-        ok: true,
-        sum,
-        free: pairs.sum,
-        at: at + 4 * ones,
-        table,
-    }
+    read_body(cat, blocks, count)
 }

@@ -93,21 +93,8 @@ fn gather<'a>(table: &Table, places: &'a mut [Section; MOST_PIECES]) -> &'a [Sec
     &places[..count]
 }
 
-/// Whether some two pieces share a block. It ends at the first two that do.
-#[cfg(not(feature = "masks"))]
-fn any_shared(pieces: &[Section]) -> bool {
-    for (i, a) in pieces.iter().enumerate() {
-        for b in &pieces[i + 1..] {
-            if a.shares_block(*b) {
-                return true;
-            }
-        }
-    }
-    false
-}
-
-/// The same by masks, for pieces that are aligned: the two differ only below the bit of the longer one's length.
-#[cfg(feature = "masks")]
+/// Whether some two pieces, all aligned, share a block: their first blocks differ only below the bit of the longer one's
+/// length. It ends at the first two that do.
 fn any_shared(pieces: &[Section]) -> bool {
     let mut masks = [0; MOST_PIECES];
     for (mask, piece) in masks.iter_mut().zip(pieces) {

@@ -45,11 +45,6 @@ impl Section {
         (lower, lower.buddy())
     }
 
-    #[cfg(not(feature = "masks"))]
-    pub fn shares_block(self, other: Section) -> bool {
-        self.first < other.end() && other.first < self.end()
-    }
-
     pub fn is_inside(self, other: Section) -> bool {
         other.first <= self.first && self.end() <= other.end()
     }

@@ -2,7 +2,8 @@
 //
 // Which numbers are served. `Height::of_length` takes any number and refuses what is no length by its answer.
 // `is_on_disk` takes any first block and any number of blocks. Every other function asks for what a section of a disk
-// gives: a height up to the greatest, which `of_length` answers, and a first block below 2^31, by `is_on_disk`.
+// gives: a height up to the greatest, which `of_length` answers, and a first block below 2^31, by `is_on_disk`;
+// `shares_block` asks for two aligned sections and their masks.
 ghost use mathlib.Core.Path.{_≡_};
 ghost use Prim.Native.Nat.{ℕ, _-_, _≤_};
 ghost use Rattle.section.specs.Limits.{blockSize, greatestDisk, catalogueSize, greatestHeight, mostFiles};

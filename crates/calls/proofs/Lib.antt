@@ -1,5 +1,4 @@
 -- The laws of the calls' code, by subject.
-pub mod Settling
 pub mod Refusing
 pub mod Removals
 pub mod Placing

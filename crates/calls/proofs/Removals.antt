@@ -12,8 +12,8 @@ use Rattle.calls.specs.Refusing.{refusing}
 use Rattle.looking.specs.declared.Answer.the-variants as Answer·
 use Rattle.looking.specs.Opened.{Opened}
 use Rattle.calls.specs.Changing.{Makes, removeOn}
-use Rattle.calls.specs.Settling.{CanSettle, Settles, mergesOf}
-use Rattle.calls.specs.declared.Settled.{Settled}
+use Rattle.settling.specs.Settling.{CanSettle, Settles, mergesOf}
+use Rattle.settling.specs.declared.Settled.{Settled}
 use Rattle.catalogue.specs.Encoding.{encode}
 use Rattle.catalogue.specs.Version.{version1}
 use Rattle.layout.proofs.Finding.{Find, found-find}

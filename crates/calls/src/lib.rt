@@ -10,14 +10,7 @@ pub use adding::add_in;
 pub use fresh::fresh_free;
 use looking::Answer;
 pub use removing::remove_in;
-pub use removing::settle;
 use table::Table;
-
-// A table whose merges are done, and the number of blocks that were copied for it.
-pub struct Settled {
-    pub table: Table,
-    pub copied: u32,
-}
 
 // What an add or a removal makes of a table: the answer, and the table if it is another one now.
 pub struct Changed {

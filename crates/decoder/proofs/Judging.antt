@@ -11,6 +11,7 @@ use Rattle.catalogue.specs.Version.{version1}
 use Rattle.decoder.proofs.Early.{falling-few}
 use Rattle.decoder.proofs.Files.{distinct-falls, distinct-of}
 use Rattle.decoder.specs.Loading.{Judged, Ready, allZero, readingOf}
+use Rattle.decoder.specs.declared.Loaded.{Loaded}
 use Rattle.layout.proofs.Lists.{each-right, each-sort, length-sort, pairwise-imp}
 use Rattle.layout.specs.Layout.{Layout, byLength, filePieces}
 use Rattle.layout.specs.Lists.{sortBy}
@@ -94,3 +95,13 @@ module _ (s : List ℕ) (t : Table) (b : Bool) where
         few-free = omega arith;
       },
     )
+
+-- ---- what was loaded, by whether it is sound
+
+pub reading-sound : (l : Loaded) → l .sound ≡ true → readingOf l ≡ sound (layoutOf (l .table))
+unfolding readingOf
+reading-sound l e = ap (λ b. elim b as (λ _. Reading) [ true ↦ sound (layoutOf (l .table)) | false ↦ unsound ]) e
+
+pub reading-none : (l : Loaded) → l .sound ≡ false → readingOf l ≡ unsound
+unfolding readingOf
+reading-none l e = ap (λ b. elim b as (λ _. Reading) [ true ↦ sound (layoutOf (l .table)) | false ↦ unsound ]) e

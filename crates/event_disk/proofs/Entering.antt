@@ -16,6 +16,7 @@ use Rattle.catalogue.proofs.Roomy.{version1-roomy}
 use Rattle.catalogue.specs.Reading.{Reading, readCatalogue, sound, unsound}
 use Rattle.catalogue.specs.Version.{version1}
 use Rattle.soundness.specs.Counts.{Exact}
+use Rattle.decoder.proofs.Judging.{reading-none, reading-sound}
 use Rattle.decoder.specs.Loading.{readingOf}
 use Rattle.decoder.specs.declared.Loaded.{Loaded}
 use Rattle.layout.specs.Layout.{Layout}
@@ -39,19 +40,12 @@ opens-wrong cat t n = record {
 
 module _ (cat : List ℕ) (l : Loaded) (rd : readingOf l ≡ readCatalogue version1 cat) (ex : Exact (l .table))
     (bytes : length cat ≡ catalogueSize) where
-  reading-by : (b : Bool) → l .sound ≡ b
-      → readCatalogue version1 cat
-      ≡ elim b as (λ _. Reading) [ true ↦ sound (layoutOf (l .table)) | false ↦ unsound ]
-  unfolding readingOf
-  reading-by b e =
-      sym rd ∙ ap (λ x. elim x as (λ _. Reading) [ true ↦ sound (layoutOf (l .table)) | false ↦ unsound ]) e
-
   loaded-entered : l .sound ≡ true → Entered cat (l .table)
   loaded-entered e = record {
     bytes = bytes;
-    reading = reading-by true e;
+    reading = sym rd ∙ reading-sound l e;
     opened = record {
-      rules = read-sound version1 version1-roomy cat (layoutOf (l .table)) (reading-by true e);
+      rules = read-sound version1 version1-roomy cat (layoutOf (l .table)) (sym rd ∙ reading-sound l e);
       sized = ex .sized;
       array = ex .array;
       files = ex .files;
@@ -65,7 +59,7 @@ module _ (cat : List ℕ) (l : Loaded) (rd : readingOf l ≡ readCatalogue versi
     shut = λ e. record {
       number = 3;
       reply = refl;
-      first = not-sound version1 cat bytes (reading-by false e);
+      first = not-sound version1 cat bytes (sym rd ∙ reading-none l e);
     };
   }
 

@@ -13,6 +13,7 @@ use Rattle.catalogue.proofs.Reading.{read-sound}
 use Rattle.catalogue.proofs.Roomy.{version1-roomy}
 use Rattle.catalogue.specs.Reading.{Reading, readCatalogue, sound, unsound}
 use Rattle.catalogue.specs.Version.{Version, version1}
+use Rattle.decoder.proofs.Judging.{reading-none, reading-sound}
 use Rattle.decoder.specs.Loading.{readingOf}
 use Rattle.decoder.specs.declared.Loaded.{Loaded}
 use Rattle.layout.specs.Sound.{Sound}
@@ -46,21 +47,14 @@ text-of-start v input k lt =
     ]
 
 module _ (input : List ℕ) (l : Loaded) (rd : readingOf l ≡ readCatalogue version1 input) where
-  -- what was read, by the answer of the loader
-  read-by : (b : Bool) → l .sound ≡ b → readCatalogue version1 input
-      ≡ elim b as (λ _. Reading) [ true ↦ sound (layoutOf (l .table)) | false ↦ unsound ]
-  unfolding readingOf
-  read-by b e =
-      sym rd ∙ ap (λ b. elim b as (λ _. Reading) [ true ↦ sound (layoutOf (l .table)) | false ↦ unsound ]) e
-
   -- a table that was loaded is sound
   pub table-sound : not (l .sound) ≡ false → Sound 13 (layoutOf (l .table))
   table-sound e =
-      read-sound version1 version1-roomy input (layoutOf (l .table)) (read-by true (not-false (l .sound) e))
+      read-sound version1 version1-roomy input (layoutOf (l .table)) (sym rd ∙ reading-sound l (not-false (l .sound) e))
 
   module _ (lc : length input ≡ version1 .bytes) where
     pub text-loaded : not (l .sound) ≡ false → printed version1 input ≡ layoutText (layoutOf (l .table))
-    text-loaded e = text-read version1 input lc ∙ ap readingText (read-by true (not-false (l .sound) e))
+    text-loaded e = text-read version1 input lc ∙ ap readingText (sym rd ∙ reading-sound l (not-false (l .sound) e))
 
     pub text-unsound : not (l .sound) ≡ true → printed version1 input ≡ refusalText 3
-    text-unsound e = text-read version1 input lc ∙ ap readingText (read-by false (not-true (l .sound) e))
+    text-unsound e = text-read version1 input lc ∙ ap readingText (sym rd ∙ reading-none l (not-true (l .sound) e))

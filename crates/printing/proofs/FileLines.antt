@@ -7,8 +7,8 @@ use Rattle.layout.specs.Lists.{sortBy}
 use Rattle.manager.specs.Printing.{fileLines, firstLine, pairLines}
 use Rattle.section.specs.declared.Section.{Section}
 use Rattle.printing.proofs.TextRoom.{blocksStart, fileMiddle, fileStart, freeMiddle}
-use Rattle.printing.proofs.Writing.{appends-same, joined, room-after, room-first, room-same}
-use Rattle.printing.specs.Texts.{Appends, Room, lineOf}
+use Rattle.texts.proofs.Writing.{appends-same, joined, room-after, room-first, room-same}
+use Rattle.texts.specs.Lines.{Appends, Room, lineOf}
 
 -- n is a file's number of blocks, and l its pieces by first block
 module _ (f : File) (n : ℕ) (l : List Section) (e : n ≡ fileBlocks f) (p : l ≡ sortBy byFirst (f .pieces)) where

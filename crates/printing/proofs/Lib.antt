@@ -1,7 +1,4 @@
--- Laws of text behind text, of decimals and of the room that a text needs, and the proofs of the functions.
-pub mod Writing
-pub mod Decimals
-pub mod Numerals
+-- Laws of the room that a text needs and of its lines, and the proofs of the functions.
 pub mod Rows
 pub mod TextRoom
 pub mod FileLines

@@ -14,7 +14,8 @@ use Rattle.table.specs.Tables.{Sized, fileOf, filesOf, layoutOf}
 use Rattle.table.specs.declared.Entry.{Entry}
 use Rattle.table.specs.declared.Table.{Table}
 use Rattle.printing.proofs.TextRoom.{text-length}
-use Rattle.printing.specs.Texts.{Room, textRoom}
+use Rattle.texts.specs.Lines.{Room}
+use Rattle.printing.specs.Texts.{textRoom}
 
 take-most : {A : Type 0} (n : ℕ) (l : List A) → length (take n l) ≤ n
 take-most zero l = omega arith

@@ -12,12 +12,9 @@ use Rattle.manager.specs.Printing.{allFileLines, blocksWord, decimal, fileLines
 use Rattle.manager.specs.Printing.{layoutText, pairLine, pairLines, refusalText, space}
 use Rattle.section.specs.Sections.{lengthOf}
 use Rattle.section.specs.declared.Section.{Section}
-use Rattle.printing.proofs.Decimals.{digits-most}
-use Rattle.printing.specs.Texts.{lineOf, refusalRoom, textRoom}
-
-pub line-size : (x : List ℕ) (m : ℕ) (y : List ℕ) (n : ℕ)
-    → length (lineOf x m y n) ≡ length x + length (decimal m) + length y + length (decimal n) + 1
-line-size x m y n = simp length-append (omega arith)
+use Rattle.texts.proofs.Decimals.{digits-most}
+use Rattle.texts.specs.Lines.{lineOf}
+use Rattle.printing.specs.Texts.{refusalRoom, textRoom}
 
 -- two numbers and what stands around them
 line-length : (x : List ℕ) (m : ℕ) (y : List ℕ) (n : ℕ) → length (lineOf x m y n) ≤ length x + length y + 21

@@ -5,9 +5,9 @@ ghost use Rattle.layout.specs.Layout.{fileBlocks};
 ghost use Rattle.manager.specs.Printing.{fileLines, allFileLines, firstLine};
 ghost use Rattle.table.specs.Tables.{fileOf, filesOf, layoutOf};
 ghost use Rattle.pieces.specs.Pieces.{IsSum, LowEntry, LowFiles};
-ghost use Rattle.printing.specs.Texts.{Room, Appends, mostOfFiles};
+ghost use Rattle.texts.specs.Lines.{Room, Appends};
+ghost use Rattle.printing.specs.Texts.{mostOfFiles};
 use crate::pairs;
-use crate::text;
 use table::Entry;
 use table::Table;
 
@@ -35,7 +35,7 @@ pub fn write_file(out: &mut [u8], at: usize, e: Entry) -> usize
 {
     let n = pieces::blocks_of(e);
     let list = pieces::sorted(e);
-    let next = text::write_line(out, at, b"file ", e.id, b" blocks ", n);
+    let next = texts::write_line(out, at, b"file ", e.id, b" blocks ", n);
     pairs::write_pairs(out, next, list)
 }
 
@@ -64,5 +64,5 @@ pub fn write_first_line(out: &mut [u8], at: usize, t: Table) -> usize
     ensures { λ r. ⌜ Appends at (firstLine (layoutOf t)) (now (out .entry)) (now (out .exit)) r ⌝ }
 {
     let free = t.blocks - blocks_of_files(t);
-    text::write_line(out, at, b"blocks ", t.blocks, b" free ", free)
+    texts::write_line(out, at, b"blocks ", t.blocks, b" free ", free)
 }

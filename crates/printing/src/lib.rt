@@ -7,12 +7,12 @@ ghost use lib.ListN.{length, take};
 ghost use Rattle.layout.specs.Sound.{Sound};
 ghost use Rattle.manager.specs.Printing.{layoutText, refusalText};
 ghost use Rattle.table.specs.Tables.{Sized, layoutOf};
-ghost use Rattle.printing.specs.Texts.{textRoom, refusalRoom, Prints};
+ghost use Rattle.texts.specs.Lines.{Prints};
+ghost use Rattle.printing.specs.Texts.{textRoom, refusalRoom};
 use table::Table;
 
 mod files;
 mod pairs;
-mod text;
 
 // Writes the text of the layout that the table stands for.
 pub fn print_table(t: Table, out: &mut [u8]) -> usize
@@ -23,7 +23,7 @@ pub fn print_table(t: Table, out: &mut [u8]) -> usize
 {
     let a = files::write_first_line(out, 0, t);
     let b = files::write_files(out, a, t);
-    let c = text::write_bytes(out, b, b"free\n");
+    let c = texts::write_bytes(out, b, b"free\n");
     pairs::write_pairs(out, c, t.free)
 }
 
@@ -32,7 +32,7 @@ pub fn print_refusal(number: u32, out: &mut [u8]) -> usize
     requires { ⌜ refusalRoom ≤ length (now out) ⌝ }
     ensures { λ r. ⌜ Prints (refusalText number) (now (out .exit)) r ⌝ }
 {
-    let a = text::write_bytes(out, 0, b"refused ");
-    let b = text::write_decimal(out, a, number);
-    text::write_bytes(out, b, b"\n")
+    let a = texts::write_bytes(out, 0, b"refused ");
+    let b = texts::write_decimal(out, a, number);
+    texts::write_bytes(out, b, b"\n")
 }

@@ -5,7 +5,7 @@ use Prim.Native.Nat.{ℕ}
 use native.Mathlib.Omega.{arith}
 use borrow.Author.Needs.{needs}
 use Rattle.catalogue.specs.Version.{version1}
-use Rattle.printing.specs.Texts.{Prints}
+use Rattle.texts.specs.Lines.{Prints}
 use Rattle.print_catalogue.proofs.InputText.{table-sound, text-loaded, text-unsound, text-wrong}
 use Rattle.print_catalogue.proofs.print_input.Statement.{statement}
 use Rattle.print_catalogue.proofs.print_input.Tie as tie

@@ -2,9 +2,9 @@
 use native.Mathlib.Omega.{arith}
 use borrow.Author.Needs.{needs}
 use Rattle.manager.specs.Printing.{refusalText}
-use Rattle.printing.proofs.Decimals.{digits-most}
+use Rattle.texts.proofs.Decimals.{digits-most}
 use Rattle.printing.proofs.TextRoom.{refusal-length}
-use Rattle.printing.proofs.Writing.{joined, prints}
+use Rattle.texts.proofs.Writing.{joined, prints}
 use Rattle.printing.proofs.print_refusal.Statement.{statement}
 use Rattle.printing.proofs.print_refusal.Tie as tie
 

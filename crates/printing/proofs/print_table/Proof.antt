@@ -7,7 +7,7 @@ use Rattle.table.specs.Tables.{layoutOf}
 use Rattle.pieces.proofs.SoundPieces.{files-low, free-low}
 use Rattle.printing.proofs.SoundTables.{files-fit, table-room}
 use Rattle.printing.proofs.TextRoom.{text-size}
-use Rattle.printing.proofs.Writing.{joined, prints}
+use Rattle.texts.proofs.Writing.{joined, prints}
 use Rattle.printing.proofs.print_table.Statement.{statement}
 use Rattle.printing.proofs.print_table.Tie as tie
 

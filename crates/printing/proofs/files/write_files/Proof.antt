@@ -13,7 +13,7 @@ use Rattle.table.specs.Files.{noEntry}
 use Rattle.table.specs.Tables.{fileOf, filesOf}
 use Rattle.pieces.specs.Pieces.{LowEntry}
 use Rattle.printing.proofs.Rows.{files-ahead, files-behind}
-use Rattle.printing.proofs.Writing.{Left, left-end, left-room, left-start, left-step}
+use Rattle.texts.proofs.Writing.{Left, left-end, left-room, left-start, left-step}
 use Rattle.printing.proofs.files.write_files.Statement.{statement}
 use Rattle.printing.proofs.files.write_files.Tie as tie
 

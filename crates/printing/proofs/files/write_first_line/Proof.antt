@@ -5,7 +5,7 @@ use Prim.Native.Nat.{_-_}
 use borrow.Author.Needs.{needs}
 use Rattle.table.specs.Tables.{layoutOf}
 use Rattle.printing.proofs.FileLines.{first-line}
-use Rattle.printing.proofs.Writing.{appends-same, room-same}
+use Rattle.texts.proofs.Writing.{appends-same, room-same}
 use Rattle.printing.proofs.files.write_first_line.Statement.{statement}
 use Rattle.printing.proofs.files.write_first_line.Tie as tie
 

@@ -1,4 +1,4 @@
--- `calls::removing::settle` meets its contract: after each turn some of the merges are made, with their copies. The
+-- `settling::settle` meets its contract: after each turn some of the merges are made, with their copies. The
 -- inner loop moves the files of the table for one merge. Assumes nothing.
 use mathlib.Core.Logic.{inl, inr}
 use mathlib.Core.Path.{_≡_, _∙_, ap, refl, subst, sym}
@@ -12,10 +12,10 @@ use Rattle.free_pieces.specs.Free.{Pairs, freeOf, lowestPair}
 use Rattle.table.proofs.FilesMoving.{FilesMoving, moving-can, moving-end, moving-free, moving-kept, moving-long}
 use Rattle.table.specs.declared.Table.{Table}
 use Rattle.table.proofs.FilesMoving.{moving-more, moving-places, moving-start}
-use Rattle.calls.proofs.Settling.{Settling, settling-start, settling-ready, settling-copies, settling-more}
-use Rattle.calls.proofs.Settling.{settling-end}
-use Rattle.calls.proofs.removing.settle.Statement.{statement}
-use Rattle.calls.proofs.removing.settle.Tie as tie
+use Rattle.settling.proofs.Settling.{Settling, settling-start, settling-ready, settling-copies, settling-more}
+use Rattle.settling.proofs.Settling.{settling-end}
+use Rattle.settling.proofs.settle.Statement.{statement}
+use Rattle.settling.proofs.settle.Tie as tie
 
 abbrev Inv-files : tie.InvT-files
 Inv-files disk t₀ copied p upper made buddy m i₀ t i = FilesMoving p buddy upper m t₀ t i

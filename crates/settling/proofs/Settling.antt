@@ -7,7 +7,7 @@ use native.Mathlib.Nat.{mul-le-mul-left, mul-suc}
 use native.Mathlib.Omega.{arith}
 use lib.ListN.{length, length-append}
 use Rattle.blocks.specs.DiskCode.{Copied, MergeFits}
-use Rattle.calls.specs.Settling.{CanSettle, Settles, mergesOf}
+use Rattle.settling.specs.Settling.{CanSettle, Settles, mergesOf}
 use Rattle.layout.proofs.Allocating.{height-lt}
 use Rattle.layout.proofs.LoopTurns.{layout-after-append}
 use Rattle.layout.proofs.MergeKeeps.{Whole}

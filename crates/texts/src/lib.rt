@@ -1,6 +1,6 @@
 // Bytes, numbers and lines, written behind what stands in a buffer already.
 ghost use Rattle.manager.specs.Printing.{decimal};
-ghost use Rattle.printing.specs.Texts.{Room, Appends, lineOf};
+ghost use Rattle.texts.specs.Lines.{Room, Appends, lineOf};
 
 // Writes the bytes of a word.
 pub fn write_bytes(out: &mut [u8], at: usize, word: &[u8]) -> usize

@@ -7,15 +7,15 @@ use native.Mathlib.Omega.{arith}
 use borrow.Author.Needs.{needs}
 use lib.ListN.{length, length-append}
 use Rattle.manager.specs.Printing.{decimal, digitZero}
-use Rattle.printing.proofs.Decimals.{decimal-more, decimal-one}
-use Rattle.printing.proofs.Writing.{joined, put-one}
+use Rattle.texts.proofs.Decimals.{decimal-more, decimal-one}
+use Rattle.texts.proofs.Writing.{joined, put-one}
 use borrow.Fn.Kinds.{In}
 use borrow.Fn.PlainCycle.{Measures, is, falls, and}
-use Rattle.printing.proofs.text.write_decimal.Reads as write-decimal
-use Rattle.printing.proofs.text.write_decimal.Kinds as write-decimal-kinds
-use Rattle.printing.proofs.text.+write_decimal.Lts-write_decimal as write-decimal-lts
-use Rattle.printing.proofs.text.+write_decimal.{statement}
-use Rattle.printing.proofs.text.+write_decimal.Tie.{close}
+use Rattle.texts.proofs.write_decimal.Reads as write-decimal
+use Rattle.texts.proofs.write_decimal.Kinds as write-decimal-kinds
+use Rattle.texts.proofs.+write_decimal.Lts-write_decimal as write-decimal-lts
+use Rattle.texts.proofs.+write_decimal.{statement}
+use Rattle.texts.proofs.+write_decimal.Tie.{close}
 
 abbrev μ-write-decimal : Measures 1 write-decimal-kinds.ps ℕ
 μ-write-decimal κs a = a .1 .1 .0

@@ -7,7 +7,7 @@ use native.Mathlib.Omega.{arith}
 use lib.ListN.{List·getD-append, getD, length, length-append}
 use Rattle.manager.specs.Printing.{decimal, decimalIn, digitZero}
 use Rattle.section.proofs.Multiples.{below-or-not}
-use Rattle.printing.proofs.Decimals.{fewer, last-digit, one-digit}
+use Rattle.texts.proofs.Decimals.{fewer, last-digit, one-digit}
 
 -- the number that the digits say, behind the digits of v
 abbrev valueFrom : ℕ → List ℕ → ℕ

@@ -7,9 +7,9 @@ use native.Mathlib.Omega.{arith}
 use borrow.Author.Needs.{needs}
 use lib.ListN.{length, set, getD}
 use lib.Seq.{length-paste, paste, paste-suc, paste-zero}
-use Rattle.printing.proofs.Writing.{pasted}
-use Rattle.printing.proofs.text.write_bytes.Statement.{statement}
-use Rattle.printing.proofs.text.write_bytes.Tie as tie
+use Rattle.texts.proofs.Writing.{pasted}
+use Rattle.texts.proofs.write_bytes.Statement.{statement}
+use Rattle.texts.proofs.write_bytes.Tie as tie
 
 abbrev Inv-loop : tie.InvT-loop
 Inv-loop out₀ at word i₀ out i = (i ≤ length word) × (out ≡ paste out₀ at word i)

@@ -6,7 +6,8 @@ use native.Mathlib.Numerals.{add-one}
 use native.Mathlib.Omega.{arith}
 use lib.ListN.{length, length-append, length-set, set, take}
 use lib.Seq.{length-paste, paste, take-length, take-paste, take-suc-set}
-use Rattle.printing.specs.Texts.{Appends, Prints, Room}
+use Rattle.manager.specs.Printing.{decimal}
+use Rattle.texts.specs.Lines.{Appends, Prints, Room, lineOf}
 
 -- ---- one text, and another behind it
 
@@ -91,3 +92,9 @@ left-end {at} {n} {all} {o} {o′} e l = record {
   next = omega (arith, ap length e);
   same = l .same;
 }
+
+-- ---- a line
+
+pub line-size : (x : List ℕ) (m : ℕ) (y : List ℕ) (n : ℕ)
+    → length (lineOf x m y n) ≡ length x + length (decimal m) + length y + length (decimal n) + 1
+line-size x m y n = simp length-append (omega arith)

@@ -10,7 +10,7 @@ use Rattle.manager.specs.Disk.{runCopies}
 use Rattle.table.specs.declared.Table.{Table}
 use Rattle.free_pieces.specs.Free.{freeOf}
 use Rattle.table.specs.Tables.{Sized, layoutOf}
-use Rattle.calls.specs.declared.Settled.{Settled}
+use Rattle.settling.specs.declared.Settled.{Settled}
 
 -- the merges of a table's layout, to the end
 abbrev pub mergesOf : Table → List Merge

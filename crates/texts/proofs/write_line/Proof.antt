@@ -1,10 +1,9 @@
 -- `write_line` appends its five parts, one behind the other. Assumes nothing.
 use native.Mathlib.Omega.{arith}
 use borrow.Author.Needs.{needs}
-use Rattle.printing.proofs.TextRoom.{line-size}
-use Rattle.printing.proofs.Writing.{joined}
-use Rattle.printing.proofs.text.write_line.Statement.{statement}
-use Rattle.printing.proofs.text.write_line.Tie as tie
+use Rattle.texts.proofs.Writing.{joined, line-size}
+use Rattle.texts.proofs.write_line.Statement.{statement}
+use Rattle.texts.proofs.write_line.Tie as tie
 
 write-bytes-requires : tie.Need-write-bytes-requires
 write-bytes-requires c κs =

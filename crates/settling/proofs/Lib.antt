@@ -1,0 +1,2 @@
+-- The laws of merging to the end.
+pub mod Settling

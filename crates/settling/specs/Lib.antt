@@ -1,0 +1,2 @@
+-- What merging to the end asks for and promises. Definitions only.
+pub mod Settling

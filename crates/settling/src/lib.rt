@@ -1,0 +1,44 @@
+// Merging to the end: merges until no height has two free pieces, with each merge's blocks copied at its step and counted.
+ghost use lib.ListN.{length};
+ghost use Rattle.settling.specs.Settling.{CanSettle, Settles};
+use table::Table;
+use table::free_merged;
+
+// A table whose merges are done, and the number of blocks that were copied for it.
+pub struct Settled {
+    pub table: Table,
+    pub copied: u32,
+}
+
+// Merges while a height has two free pieces. The files are moved where they stand, since a table that is passed on is
+// copied.
+pub fn settle(disk: &mut [u8], table: Table) -> Settled
+    requires { ⌜ CanSettle table (length (now disk)) ⌝ }
+    ensures { λ r. ⌜ Settles table (now (disk .entry)) (now (disk .exit)) r ⌝ }
+{
+    let mut t = table;
+    let mut copied: u32 = 0;
+    let free = t.free;
+    let mut p = free.lowest_pair();
+    'merges: while p.found {
+        let lower = p.lower;
+        let upper = p.upper;
+        let made = blocks::copy_merge(disk, lower, upper);
+        copied += made;
+        let buddy = lower.buddy();
+        let m = t.count;
+        let mut i: usize = 0;
+        'files: while i < m {
+            let e = t.files[i];
+            if e.place_inside(buddy) < e.count {
+                let moved = e.moved(buddy, upper);
+                t.files[i] = moved;
+            }
+            i += 1;
+        }
+        let left = free_merged(p);
+        t.free = left;
+        p = left.lowest_pair();
+    }
+    Settled { table: t, copied }
+}

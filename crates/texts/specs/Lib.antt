@@ -1,0 +1,2 @@
+-- What the functions that write text promise. Definitions only.
+pub mod Lines

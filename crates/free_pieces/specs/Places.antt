@@ -2,12 +2,10 @@
 use mathlib.Core.Bool.{Bool, false, true}
 use mathlib.Core.List.{List, [], _++_, _∷_}
 use mathlib.Core.Path.{_≡_}
-use Prim.Native.Nat.{_+_, _≤_, suc, ℕ}
+use Prim.Native.Nat.{_≤_, suc, ℕ}
 use lib.Dec.{leb}
-use lib.ListN.{drop, length, take}
+use lib.ListN.{drop, take}
 use Rattle.section.specs.declared.Section.{Section}
-use Rattle.free_pieces.specs.Free.{freeOf}
-use Rattle.free_pieces.specs.declared.Free.{Free}
 
 -- how many stand before the first that passes the test
 unfoldable pub firstPlace : {A : Type 0} → (A → Bool) → List A → ℕ
@@ -30,9 +28,3 @@ startsNoLower x s = leb x (s .first)
 pub record IsPlace (n i r : ℕ) : Type 0 where
   pub most : r ≤ n
   pub place : r ≡ i
-
--- r stands for l, one fewer than n pieces
-pub record OneFewer (n : ℕ) (l : List Section) (r : Free) : Type 0 where
-  pub count : r .count + 1 ≡ n
-  pub list : freeOf r ≡ l
-  pub exact : length (freeOf r) ≡ r .count

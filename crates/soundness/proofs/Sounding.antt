@@ -8,10 +8,9 @@ use lib.Count.{ones}
 use lib.Dec.{eqb, leb}
 use lib.ListN.{length}
 use borrow.Author.Tests.{eq-eqb, le-leb, leb-true}
-use Rattle.catalogue.proofs.Tests.{and-intro, every-each}
+use Rattle.catalogue.proofs.Tests.{and-intro}
 use Rattle.catalogue.specs.Reading.{every, isSound, soundFile, soundFree, soundPiece}
 use Rattle.catalogue.specs.Version.{version1}
-use Rattle.layout.proofs.Lists.{each-imp}
 use Rattle.layout.specs.Layout.{Layout, allPieces, blockCount, fileBlocks, freeBlocks}
 use Rattle.layout.specs.Lists.{Each, sumOf}
 use Rattle.section.proofs.Booleans.{and-true}

@@ -2,11 +2,10 @@
 use mathlib.Core.Bool.{Bool}
 use mathlib.Core.List.{List, [], _∷_}
 use Prim.Native.Nat.{suc, zero, ℕ}
-use lib.ListN.{take}
 use Rattle.layout.specs.Lists.{Each}
 use Rattle.section.specs.Sections.{Addressable, isInside, movedInto}
 use Rattle.section.specs.declared.Section.{Section}
-use Rattle.table.specs.Tables.{InPlaces, piecesIn}
+use Rattle.table.specs.Tables.{piecesIn}
 use Rattle.table.specs.declared.Entry.{Entry}
 
 -- the section lies inside b
@@ -31,10 +30,3 @@ pub record CanMove (b u : Section) (l : List Section) : Type 0 where
 
 abbrev pub PiecesServed : Entry → Type 0
 PiecesServed e = Each Addressable (piecesIn e)
-
--- what moving the first m files asks for
-pub record CanMoveFiles (b u : Section) (m : ℕ) (files : List Entry) : Type 0 where
-  pub from : Addressable b
-  pub to : Addressable u
-  pub each : Each InPlaces files
-  pub pieces : Each PiecesServed (take m files)

@@ -4,8 +4,9 @@
 use section::Section;
 
 mod allocating;
+mod few;
+mod lists;
 mod pairs;
-mod pieces;
 mod taking;
 
 pub use allocating::allocate;
@@ -15,6 +16,12 @@ pub use taking::take_piece;
 pub struct Free {
     pub count: usize,
     pub items: [Section; 26],
+}
+
+// Few pieces: no more than a file of a sound layout has, or its free space.
+pub struct Pieces {
+    pub count: usize,
+    pub items: [Section; 13],
 }
 
 // A piece that was taken and the pieces that are left, if one was found.

@@ -1,0 +1,52 @@
+// Lists with few pieces: the free pieces of a sound layout in as many places as they need, and back. A list of this
+// size is passed on without a call to copy it.
+ghost use Prim.Native.Nat.{_≤_};
+ghost use Rattle.free_pieces.specs.Free.{freeOf, listOf, piecePlaces, Lists, ListsFew};
+use crate::Free;
+use crate::Pieces;
+use section::Height;
+use section::Section;
+
+impl Free {
+    // The free pieces, where they are few.
+    pub fn few(self) -> Pieces
+        requires { ⌜ self .count ≤ piecePlaces ⌝ }
+        ensures { λ r. ⌜ ListsFew (self .count) (freeOf self) r ⌝ }
+    {
+        let s = Section {
+            first: 0,
+            height: Height { value: 0 },
+        };
+        let count = self.count;
+        let mut items = [s; 13];
+        let mut j: usize = 0;
+        while j < count {
+            let piece = self.items[j];
+            items[j] = piece;
+            j += 1;
+        }
+        Pieces { count, items }
+    }
+}
+
+impl Pieces {
+    // The pieces as free pieces.
+    pub fn free(self) -> Free
+        requires { ⌜ self .count ≤ piecePlaces ⌝ }
+        ensures { λ r. ⌜ Lists (self .count) (listOf self) r ⌝ }
+    {
+        let s = Section {
+            first: 0,
+            height: Height { value: 0 },
+        };
+        let count = self.count;
+        let mut items = [s; 26];
+        let mut j: usize = 0;
+        while j < count {
+            let piece = self.items[j];
+            items[j] = piece;
+            j += 1;
+        }
+        Free { count, items }
+    }
+}

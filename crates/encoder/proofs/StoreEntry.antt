@@ -8,10 +8,10 @@ use Rattle.section.specs.declared.Section.{Section}
 use Rattle.layout.proofs.Lists.{each-sort}
 use Rattle.layout.specs.Layout.{byFirst, fileBlocks}
 use Rattle.layout.specs.Lists.{Each, sortBy}
-use Rattle.free_pieces.specs.Free.{Lists, freeOf}
+use Rattle.free_pieces.specs.Free.{ListsFew, listOf}
 use Rattle.table.specs.Tables.{fileOf, piecesIn}
 use Rattle.table.specs.declared.Entry.{Entry}
-use Rattle.free_pieces.specs.declared.Free.{Free}
+use Rattle.free_pieces.specs.declared.Pieces.{Pieces}
 use Rattle.catalogue.proofs.Fields.{bigEndian-length}
 use Rattle.catalogue.specs.Encoding.{bigEndian, entryBytes, pairBytes, pairsBytes}
 use Rattle.pieces.specs.Pieces.{Low, LowEntry}
@@ -32,15 +32,15 @@ pair-written s n {b = b} {c = c} {q = q} {r = r} e w v =
 
 -- ---- an entry, from its blocks and its sorted pieces
 
-module _ (e : Entry) (n : ℕ) (blocks : n ≡ fileBlocks (fileOf e)) (s : Free)
-    (sorted : Lists (e .count) (sortBy byFirst (piecesIn e)) s) where
+module _ (e : Entry) (n : ℕ) (blocks : n ≡ fileBlocks (fileOf e)) (s : Pieces)
+    (sorted : ListsFew (e .count) (sortBy byFirst (piecesIn e)) s) where
   pub entry-parts : entryBytes 2 (fileOf e)
-      ≡ bigEndian 2 (e .id) ++ (bigEndian 2 n ++ pairsBytes 2 (freeOf s))
+      ≡ bigEndian 2 (e .id) ++ (bigEndian 2 n ++ pairsBytes 2 (listOf s))
   unfolding entryBytes
   entry-parts =
       ap₂ (λ m l. bigEndian 2 (e .id) ++ (bigEndian 2 m ++ pairsBytes 2 l)) (sym blocks) (sym (sorted .list))
 
-  pub sorted-low : LowEntry e → Each Low (freeOf s)
+  pub sorted-low : LowEntry e → Each Low (listOf s)
   sorted-low h = subst (Each Low) (sym (sorted .list)) (each-sort byFirst (h .low))
 
 -- an entry's id has room

@@ -1,6 +1,7 @@
 // A table stored as the bytes of a catalogue, front to back: each function writes its bytes from `at` on and answers
 // the position after them, and `clear` writes the zero bytes after the last.
 use free_pieces::Free;
+use free_pieces::Pieces;
 use section::Section;
 use table::Entry;
 use table::Table;
@@ -12,7 +13,7 @@ ghost use Rattle.section.specs.Heights.{NoHigher};
 ghost use Rattle.section.specs.Limits.{catalogueSize};
 ghost use Rattle.layout.specs.Lists.{Each};
 ghost use Rattle.layout.specs.Sound.{Sound};
-ghost use Rattle.free_pieces.specs.Free.{freeOf, freePlaces};
+ghost use Rattle.free_pieces.specs.Free.{freeOf, freePlaces, listOf, piecePlaces};
 ghost use Rattle.table.specs.Tables.{Sized, fileOf, layoutOf};
 ghost use Rattle.catalogue.specs.Encoding.{bigEndian, encode, entryBytes, pairBytes, pairsBytes};
 ghost use Rattle.catalogue.specs.Version.{version1};
@@ -43,11 +44,11 @@ fn write_pair(cat: &mut [u8], at: usize, s: Section) -> usize
 }
 
 // Writes the pairs of a list.
-fn write_pairs(cat: &mut [u8], at: usize, l: Free) -> usize
-    requires { ⌜ l .count ≤ freePlaces ⌝ }
-    requires { ⌜ Each Low (freeOf l) ⌝ }
-    requires { ⌜ Room (now cat) at (pairsBytes 2 (freeOf l)) ⌝ }
-    ensures { λ r. ⌜ Written (now (cat .entry)) at (pairsBytes 2 (freeOf l)) (now (cat .exit)) r ⌝ }
+fn write_pairs(cat: &mut [u8], at: usize, l: Pieces) -> usize
+    requires { ⌜ l .count ≤ piecePlaces ⌝ }
+    requires { ⌜ Each Low (listOf l) ⌝ }
+    requires { ⌜ Room (now cat) at (pairsBytes 2 (listOf l)) ⌝ }
+    ensures { λ r. ⌜ Written (now (cat .entry)) at (pairsBytes 2 (listOf l)) (now (cat .exit)) r ⌝ }
 {
     let count = l.count;
     let mut next = at;
@@ -109,7 +110,8 @@ pub fn store(cat: &mut [u8], t: Table)
         next = write_entry(cat, next, e);
         i += 1;
     }
-    let end = write_pairs(cat, next, t.free);
+    let free = t.free;
+    let end = write_pairs(cat, next, free.few());
     clear(cat, end);
 }
 
@@ -122,6 +124,6 @@ pub fn store_fresh(cat: &mut [u8], blocks: u32, free: Free)
 {
     let count: u32 = 0;
     let next = write_header(cat, blocks, count);
-    let end = write_pairs(cat, next, free);
+    let end = write_pairs(cat, next, free.few());
     clear(cat, end);
 }

@@ -38,6 +38,7 @@ pub record ListsFew (n : ℕ) (l : List Section) (r : Pieces) : Type 0 where
   pub count : r .count ≡ n
   pub list : listOf r ≡ l
   pub exact : length l ≡ n
+  pub few : n ≤ piecePlaces
 
 -- what was taken, if a piece was found
 unfoldable pub takenOf : Drawn → Taken

@@ -5,7 +5,7 @@ use Prim.Native.Nat.{_-_, _<_, _≤_, ℕ}
 use native.Mathlib.Decide.{ℕ-discrete}
 use native.Mathlib.Nat.{le-of-lt}
 use native.Mathlib.Omega.{arith}
-use lib.Count.{ones}
+use lib.Count.{ones, ones-le}
 use lib.ListN.{length}
 use lib.Pow.{pow-lt, pow-pos}
 use Rattle.layout.proofs.Allocating.{Falling, height-lt}
@@ -18,7 +18,8 @@ use Rattle.layout.proofs.Ranges.{inRange-apart, inRange-inside, inRange
 use Rattle.layout.proofs.SoundSums.{ShapeSound, SoundSums, falling-heights, falling-of, free-is, free-size}
 use Rattle.layout.proofs.SoundSums.{pieces-size}
 use Rattle.layout.proofs.Taking.{Rising}
-use Rattle.layout.specs.Layout.{File, Layout, allPieces, blockCount, fileBlocks, filePieces, holdsBlock}
+use Rattle.layout.specs.Layout.{File, Layout, allPieces, blockCount, fileBlocks, filePieces, freeBlocks}
+use Rattle.layout.specs.Layout.{holdsBlock}
 use Rattle.layout.specs.Lists.{Each, Pairwise, done, more, next, none, sumOf}
 use Rattle.layout.specs.Sound.{Sound, greatestId}
 use Rattle.section.proofs.Lengths.{pow-lt-inv}
@@ -101,6 +102,14 @@ module _ (k : ℕ) (l : Layout) where
     ids = pairwise-map shape (s .ids-rise);
     few = s .most-files;
   }
+
+  -- a sound layout has at most as many free pieces as heights
+  pub free-few : 1 ≤ k → Sound k l → length (l .free) ≤ k
+  free-few pos s = omega (
+    arith,
+    s .free-count,
+    ones-le k (freeBlocks l) (omega (arith, s .most-blocks, pow-lt {i = k - 1} {j = k} (omega arith))),
+  )
 
   -- ---- from sums to the rules
 

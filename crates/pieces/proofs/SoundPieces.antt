@@ -1,15 +1,18 @@
--- The pieces of a sound table: every height has a length. Assumes nothing.
+-- The pieces of a sound table: every height has a length, and the free ones are few. Assumes nothing.
 use mathlib.Core.List.{List, [], _++_, _∷_}
-use Prim.Native.Nat.{_<_}
+use mathlib.Core.Path.{_≡_}
+use Prim.Native.Nat.{_<_, _≤_}
 use native.Mathlib.Omega.{arith}
-use lib.ListN.{take}
+use lib.ListN.{length, take}
+use lib.Seq.{length-take-le}
 use Rattle.section.specs.declared.Section.{Section}
 use Rattle.layout.proofs.Lists.{each-and, each-imp, each-left, each-right, each-unmap}
+use Rattle.layout.proofs.Soundness.{free-few}
 use Rattle.layout.specs.Layout.{File, filePieces}
 use Rattle.layout.specs.Lists.{Each, done, more}
 use Rattle.layout.specs.Sound.{Sound}
 use Rattle.free_pieces.proofs.EachItem.{each-take}
-use Rattle.free_pieces.specs.Free.{freeOf}
+use Rattle.free_pieces.specs.Free.{freeOf, freePlaces, piecePlaces}
 use Rattle.table.specs.Tables.{Sized, fileOf, filesOf, layoutOf}
 use Rattle.table.specs.declared.Entry.{Entry}
 use Rattle.table.specs.declared.Table.{Table}
@@ -29,6 +32,14 @@ module _ (t : Table) (sized : Sized t) (sound : Sound 13 (layoutOf t)) where
 
   pub free-low : Each Low (freeOf (t .free))
   free-low = each-right (filePieces (filesOf t)) (freeOf (t .free)) all-low
+
+  pub free-places : length (t .free .items) ≡ freePlaces → t .free .count ≤ piecePlaces
+  unfolding freeOf layoutOf
+  free-places e = omega (
+    arith,
+    free-few 13 (layoutOf t) (omega arith) sound,
+    length-take-le (t .free .count) (t .free .items) (omega (arith, sized .free)),
+  )
 
   pub files-low : LowFiles t
   unfolding filesOf

@@ -24,7 +24,8 @@ pub fn print_table(t: Table, out: &mut [u8]) -> usize
     let a = files::write_first_line(out, 0, t);
     let b = files::write_files(out, a, t);
     let c = texts::write_bytes(out, b, b"free\n");
-    pairs::write_pairs(out, c, t.free)
+    let free = t.free;
+    pairs::write_pairs(out, c, free.few())
 }
 
 // Writes the text of a refusal.

@@ -2,14 +2,12 @@
 use mathlib.Core.Path.{_≡_, subst, sym}
 use Prim.Native.Nat.{_<_, _≤_, ℕ}
 use native.Mathlib.Omega.{arith}
-use lib.Count.{ones-le}
 use lib.ListN.{length}
 use Rattle.layout.proofs.Finding.{found-find}
 use Rattle.layout.proofs.MergeKeeps.{Whole}
-use Rattle.layout.proofs.Ones.{at-most-one-ones}
 use Rattle.layout.proofs.Removed.{release-whole}
-use Rattle.layout.proofs.SoundSums.{SoundSums, free-size}
-use Rattle.layout.specs.Layout.{blockCount}
+use Rattle.layout.proofs.SoundSums.{SoundSums}
+use Rattle.layout.proofs.Soundness.{free-few, sums-sound}
 use Rattle.table.proofs.ReadyPairs.{Fits}
 use Rattle.table.proofs.Released.{find-at}
 use Rattle.table.specs.Files.{entryAt, hasId}
@@ -24,11 +22,7 @@ module _ (t : Table) (g : SoundSums 13 (layoutOf t)) where
   -- a sound layout has at most a free piece for each height
   pub few-free : length (freeOf (t .free)) ≡ t .free .count → t .free .count ≤ piecePlaces
   unfolding layoutOf
-  few-free exact = omega (
-    arith,
-    at-most-one-ones (freeOf (t .free)) (g .thin),
-    ones-le 13 (blockCount (freeOf (t .free))) (omega (arith, free-size 13 (layoutOf t) g, g .top)),
-  )
+  few-free exact = omega (arith, exact, free-few 13 (layoutOf t) (omega arith) (sums-sound 13 (layoutOf t) g))
 
   pub table-released-whole : (i : ℕ) (r : Table) → t .count ≤ length (t .files) → i < t .count
       → i ≡ firstPlace (hasId (entryAt t i .id)) (filesOf t) → Released t i r → Whole (t .blocks) (layoutOf r)

@@ -4,7 +4,8 @@ use native.Mathlib.Omega.{arith}
 use borrow.Author.Needs.{needs}
 use Rattle.manager.specs.Printing.{layoutText}
 use Rattle.table.specs.Tables.{layoutOf}
-use Rattle.pieces.proofs.SoundPieces.{files-low, free-low}
+use Rattle.free_pieces.proofs.Arrays.{length-of-mapped}
+use Rattle.pieces.proofs.SoundPieces.{files-low, free-low, free-places}
 use Rattle.printing.proofs.SoundTables.{files-fit, table-room}
 use Rattle.printing.proofs.TextRoom.{text-size}
 use Rattle.texts.proofs.Writing.{joined, prints}
@@ -43,18 +44,22 @@ write-bytes-requires c κs =
     (p .1 .1) in
     record { fits = omega (arith, text-size (layoutOf t)) }
 
+few-requires : tie.Need-few-requires
+few-requires c κs =
+    let a = c .before .before .before .before .before .before .before .before .before .before .before .before .before .before .before .before in
+    free-places (a .args .t) (a .pre .0) (a .pre .1 .0) (search (needs, length-of-mapped))
+
 write-pairs-requires : tie.Need-write-pairs-requires
 unfolding layoutOf
 write-pairs-requires c κs =
-    let p = c .before .before .before .before .before .before .before .before .before .before .before .before
-    .before .before .before .pre in
-    let t = c .before .before .before .before .before .before .before .before .before .before .before .before
-    .before .before .before .args .t in
-    let r = table-room t (p .0) (p .1 .0)
-    (c .before .before .before .before .before .before .before .before .before .before .before .before .before
-    .before .before .args .out .now)
-    (p .1 .1) in
-    (p .0 .free, (free-low t (p .0) (p .1 .0), record { fits = omega (arith, text-size (layoutOf t)) }))
+    let a = c .before .before .before .before .before .before .before .before .before .before .before .before .before .before .before .before .before in
+    let p = a .pre in
+    let t = a .args .t in
+    let f = c .few .ensures in
+    let r = table-room t (p .0) (p .1 .0) (a .args .out .now) (p .1 .1) in (
+      omega (arith, f .count, f .few),
+      (rw (f .list) (free-low t (p .0) (p .1 .0)), record { fits = rw (f .list) (omega (arith, text-size (layoutOf t))) }),
+    )
 
 same-length : tie.Need-same-length
 same-length c = search needs
@@ -62,24 +67,16 @@ same-length c = search needs
 returns : tie.Need-returns
 unfolding layoutOf layoutText
 returns c =
-    let p = c .before .before .before .before .before .before .before .before .before .before .before .before
-    .before .before .before .before .before .before .pre in
-    let t = c .before .before .before .before .before .before .before .before .before .before .before .before
-    .before .before .before .before .before .before .args .t in
-    let r = table-room t (p .0) (p .1 .0)
-    (c .before .before .before .before .before .before .before .before .before .before .before .before .before
-    .before .before .before .before .before .args .out .now)
-    (p .1 .1) in
+    let a = c .before .before .before .before .before .before .before .before .before .before .before .before .before .before .before .before .before .before .before .before in
+    let p = a .pre in
+    let t = a .args .t in
+    let f = c .before .before .before .few .ensures in
     prints
-    (joined
-    (c .before .before .before .before .before .before .before .before .before .before .before .before .before
-    .before .before .write-first-line .ensures)
-    (joined
-    (c .before .before .before .before .before .before .before .before .before .before .before .write-files
-    .ensures)
-    (joined (c .before .before .before .before .before .before .write-bytes .ensures)
-    (c .before .before .write-pairs .ensures))))
-    r
+    (joined (c .before .before .before .before .before .before .before .before .before .before .before .before .before .before .before .before .before .write-first-line .ensures)
+    (joined (c .before .before .before .before .before .before .before .before .before .before .before .before .before .write-files .ensures)
+    (joined (c .before .before .before .before .before .before .before .before .write-bytes .ensures)
+    (rw (f .list) at (c .before .before .write-pairs .ensures)))))
+    (table-room t (p .0) (p .1 .0) (a .args .out .now) (p .1 .1))
 
 pub print-table-spec : {M : Type 1} → statement M
 print-table-spec =
@@ -89,6 +86,7 @@ print-table-spec =
     write-files-requires
     slice-aggregate-write-bytes
     write-bytes-requires
+    few-requires
     write-pairs-requires
     same-length
     returns)

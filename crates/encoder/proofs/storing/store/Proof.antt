@@ -6,7 +6,7 @@ use Prim.Native.Nat.{_-_, _≤_}
 use native.Mathlib.Omega.{arith}
 use lib.ListN.{length, take}
 use borrow.Author.Needs.{needs}
-use Rattle.pieces.proofs.SoundPieces.{files-low, free-low}
+use Rattle.pieces.proofs.SoundPieces.{files-low, free-low, free-places}
 use Rattle.free_pieces.proofs.Arrays.{length-of-mapped}
 use Rattle.free_pieces.proofs.EachItem.{each-taken}
 use Rattle.table.specs.Tables.{fileOf, filesOf, layoutOf}
@@ -20,7 +20,8 @@ use Rattle.encoder.proofs.storing.store.Tie as tie
 
 abbrev Inv-loop : tie.InvT-loop
 Inv-loop cat₀ t count next₀ i₀ cat next i =
-    (count ≡ t .count) × (i ≤ count) × Written cat₀ next₀ (entriesBytes 2 (map fileOf (take i (t .files)))) cat next
+    (count ≡ t .count) × (length (t .files) ≡ 64) × (i ≤ count)
+    × Written cat₀ next₀ (entriesBytes 2 (map fileOf (take i (t .files)))) cat next
 
 abbrev μ-loop : tie.MeasureT-loop
 μ-loop cat₀ t count next₀ i₀ cat next i = count - i
@@ -41,6 +42,7 @@ loop-holds : tie.Need-loop-holds Inv-loop μ-loop
 unfolding entriesBytes
 loop-holds c = (
   refl,
+  search (needs, length-of-mapped),
   omega arith,
   list-none (λ (e : Entry). entryBytes 2 (fileOf e)) (λ l. entriesBytes 2 (map fileOf l)) refl (λ a l. refl)
       (c .before .before .before .before .before .args .t2 .files) (c .before .before .write-header .last .0)
@@ -60,14 +62,14 @@ write-entry-requires c κs =
     let h = c .before .before .before .before .before .before .write-header in
     let s = c .before .before .before .before .before .before .before .before .before in
     let t = s .args .t2 in
-    let n : length (t .files) ≡ 64 = search (needs, length-of-mapped) in
+    let n = l .inv .1 in
     let k = files-count t (s .pre .1 .0) n in (
       each-taken (t .files) (t .count) _ _ (omega arith) (files-low t (s .pre .1 .0) (s .pre .1 .1) .each)
           (omega arith),
       list-room (λ (e : Entry). entryBytes 2 (fileOf e)) (λ l. entriesBytes 2 (map fileOf l)) refl (λ a l. refl)
           (t .files) _ (h .last .0) (l .cat) (h .result) (t .count) (l .i) (l .next) (omega arith) (omega arith)
           (files-room (layoutOf t) (t .count) k (s .pre .1 .1) (s .args .cat .now) (s .pre .0) (h .last .0)
-          (h .result) (h .ensures)) (l .inv .2),
+          (h .result) (h .ensures)) (l .inv .3),
     )
 
 add-i : tie.Need-add-i Inv-loop μ-loop
@@ -83,30 +85,38 @@ loop-again c =
     let h = c .before .before .before .before .before .before .before .before .before .write-header in
     let s = c .before .before .before .before .before .before .before .before .before .before .before .before in
     let t = s .args .t2 in
-    let n : length (t .files) ≡ 64 = search (needs, length-of-mapped) in (
+    let n = l .inv .1 in (
       refl,
+      n,
       omega arith,
       list-more (λ (e : Entry). entryBytes 2 (fileOf e)) (λ l. entriesBytes 2 (map fileOf l)) refl (λ a l. refl)
-          (t .files) _ (h .last .0) (l .cat) _ (h .result) (l .i) (l .next) _ (omega arith) (l .inv .2)
+          (t .files) _ (h .last .0) (l .cat) _ (h .result) (l .i) (l .next) _ (omega arith) (l .inv .3)
           (c .before .before .write-entry .ensures),
     )
+
+few-requires : tie.Need-few-requires Inv-loop μ-loop
+few-requires c κs =
+    let s = c .before .before .before .before .before .before .before .before .before in
+    free-places (s .args .t2) (s .pre .1 .0) (s .pre .1 .1) (search (needs, length-of-mapped))
 
 write-pairs-requires : tie.Need-write-pairs-requires Inv-loop μ-loop
 unfolding filesOf layoutOf
 write-pairs-requires c κs =
-    let l = c .before .before .before .loop in
-    let h = c .before .before .before .before .before .before .write-header in
-    let s = c .before .before .before .before .before .before .before .before .before in
+    let p = c .few in
+    let l = c .before .before .before .before .loop in
+    let h = c .before .before .before .before .before .before .before .write-header in
+    let s = c .before .before .before .before .before .before .before .before .before .before in
     let t = s .args .t2 in
-    let n : length (t .files) ≡ 64 = search (needs, length-of-mapped) in
+    let n = l .inv .1 in
     let k = files-count t (s .pre .1 .0) n in
     let q : l .i ≡ t .count = omega arith in
-    let w = rw q at (l .inv .2) in (
-      s .pre .1 .0 .free,
+    let w = rw q at (l .inv .3) in (
+      omega (arith, p .ensures .count, p .ensures .few),
       (
-        free-low t (s .pre .1 .0) (s .pre .1 .1),
-        free-room (layoutOf t) (t .count) k (s .pre .1 .1) (s .args .cat .now) (s .pre .0) (h .last .0) (h .result)
-            (h .ensures) (l .cat) (l .next) w,
+        rw (p .ensures .list) (free-low t (s .pre .1 .0) (s .pre .1 .1)),
+        rw (p .ensures .list)
+            (free-room (layoutOf t) (t .count) k (s .pre .1 .1) (s .args .cat .now) (s .pre .0) (h .last .0)
+            (h .result) (h .ensures) (l .cat) (l .next) w),
       ),
     )
 
@@ -114,16 +124,18 @@ clear-requires : tie.Need-clear-requires Inv-loop μ-loop
 unfolding filesOf layoutOf
 clear-requires c κs =
     let f = c .before .before .before .write-pairs in
-    let l = c .before .before .before .before .before .before .before .loop in
-    let h = c .before .before .before .before .before .before .before .before .before .before .write-header in
-    let s = c .before .before .before .before .before .before .before .before .before .before .before .before .before in
+    let p = c .before .before .before .before .few in
+    let l = c .before .before .before .before .before .before .before .before .loop in
+    let h = c .before .before .before .before .before .before .before .before .before .before .before .write-header in
+    let s = c .before .before .before .before .before .before .before .before .before .before .before .before .before
+    .before in
     let t = s .args .t2 in
-    let n : length (t .files) ≡ 64 = search (needs, length-of-mapped) in
+    let n = l .inv .1 in
     let k = files-count t (s .pre .1 .0) n in
     let q : l .i ≡ t .count = omega arith in
-    let w = rw q at (l .inv .2) in
+    let w = rw q at (l .inv .3) in
     end-room (layoutOf t) (t .count) k (s .pre .1 .1) (s .args .cat .now) (s .pre .0) (h .last .0)
-    (h .result) (h .ensures) (l .cat) (l .next) w (f .last .0) (f .result) (f .ensures)
+    (h .result) (h .ensures) (l .cat) (l .next) w (f .last .0) (f .result) (rw (p .ensures .list) at (f .ensures))
 
 same-length : tie.Need-same-length Inv-loop μ-loop
 same-length c = search needs
@@ -134,16 +146,18 @@ returns c =
     let z = c .before .before .clear in
     let d = c .before .before .before .before .before .before in
     let f = d .write-pairs in
-    let l = d .before .before .before .before .loop in
-    let h = d .before .before .before .before .before .before .before .write-header in
-    let s = d .before .before .before .before .before .before .before .before .before .before in
+    let p = d .before .few in
+    let l = d .before .before .before .before .before .loop in
+    let h = d .before .before .before .before .before .before .before .before .write-header in
+    let s = d .before .before .before .before .before .before .before .before .before .before .before in
     let t = s .args .t2 in
-    let n : length (t .files) ≡ 64 = search (needs, length-of-mapped) in
+    let n = l .inv .1 in
     let k = files-count t (s .pre .1 .0) n in
     let q : l .i ≡ t .count = omega arith in
-    let w = rw q at (l .inv .2) in
+    let w = rw q at (l .inv .3) in
     stored (layoutOf t) (t .count) k (s .pre .1 .1) (s .args .cat .now) (s .pre .0) (h .last .0)
-    (h .result) (h .ensures) (l .cat) (l .next) w (f .last .0) (f .result) (f .ensures) (z .last .0) (z .ensures)
+    (h .result) (h .ensures) (l .cat) (l .next) w (f .last .0) (f .result) (rw (p .ensures .list) at (f .ensures))
+    (z .last .0) (z .ensures)
 
 pub store-spec : {M : Type 1} → statement M
 store-spec =
@@ -160,6 +174,7 @@ store-spec =
     add-i
     loop-less
     loop-again
+    few-requires
     write-pairs-requires
     clear-requires
     same-length

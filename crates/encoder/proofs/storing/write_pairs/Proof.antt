@@ -6,7 +6,7 @@ use lib.ListN.{length, take}
 use borrow.Author.Needs.{needs}
 use Rattle.free_pieces.proofs.Arrays.{length-of-mapped}
 use Rattle.free_pieces.proofs.EachItem.{each-taken}
-use Rattle.free_pieces.specs.Free.{freeOf}
+use Rattle.free_pieces.specs.Free.{listOf}
 use Rattle.catalogue.specs.Encoding.{pairBytes, pairsBytes}
 use Rattle.encoder.specs.Store.{Written}
 use Rattle.encoder.proofs.StoreLists.{list-more, list-none, list-room}
@@ -36,11 +36,11 @@ element-copy-out-s : tie.Need-element-copy-out-s Inv-loop μ-loop
 element-copy-out-s c = search needs
 
 write-pair-requires : tie.Need-write-pair-requires Inv-loop μ-loop
-unfolding pairsBytes freeOf
+unfolding pairsBytes listOf
 write-pair-requires c κs =
     let s = c .before .before .before .before .before in
     let l = c .before .before .before .loop in
-    let n : length (s .args .t3 .items) ≡ 26 = search (needs, length-of-mapped) in (
+    let n : length (s .args .t3 .items) ≡ 13 = search (needs, length-of-mapped) in (
       each-taken (s .args .t3 .items) (s .args .t3 .count) _ _ (omega arith) (s .pre .1 .0)
           (omega arith),
       list-room (pairBytes 2) (pairsBytes 2) refl (λ a l. refl) (s .args .t3 .items) _ (s .args .cat .now) (l .cat)
@@ -59,7 +59,7 @@ unfolding pairsBytes
 loop-again c =
     let s = c .before .before .before .before .before .before .before .before in
     let l = c .before .before .before .before .before .before .loop in
-    let n : length (s .args .t3 .items) ≡ 26 = search (needs, length-of-mapped) in (
+    let n : length (s .args .t3 .items) ≡ 13 = search (needs, length-of-mapped) in (
       refl,
       omega arith,
       list-more (pairBytes 2) (pairsBytes 2) refl (λ a l. refl) (s .args .t3 .items)
@@ -71,7 +71,7 @@ same-length : tie.Need-same-length Inv-loop μ-loop
 same-length c = search needs
 
 returns : tie.Need-returns Inv-loop μ-loop
-unfolding freeOf
+unfolding listOf
 returns c =
     let l = c .before .loop in
     let s = c .before .before .before in

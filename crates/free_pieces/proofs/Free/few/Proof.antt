@@ -62,6 +62,7 @@ returns c =
       count = refl;
       list = rw e at (v .5);
       exact = length-take-le (p .count) (p .items) (omega (arith, v .0, v .1, v .2));
+      few = c .before .before .pre;
     }
 
 pub few-spec : {M : Type 1} → statement M

@@ -3,7 +3,7 @@ use native.Mathlib.Omega.{arith}
 use borrow.Author.Needs.{needs}
 use Rattle.layout.proofs.Lists.{each-sort}
 use Rattle.layout.specs.Layout.{byFirst}
-use Rattle.free_pieces.specs.Free.{freeOf}
+use Rattle.free_pieces.specs.Free.{listOf}
 use Rattle.table.specs.Tables.{fileOf}
 use Rattle.printing.proofs.FileLines.{file-pairs-room, file-room, file-written}
 use Rattle.printing.proofs.files.write_file.Statement.{statement}
@@ -26,7 +26,7 @@ write-line-requires c κs =
     let e = c .before .before .before .before .before .before .args .e in
     let s = c .before .before .before .sorted in
     let n = c .before .before .before .before .blocks-of in
-    file-room (fileOf e) (n .result) (freeOf (s .result)) (n .ensures .equal) (s .ensures .list)
+    file-room (fileOf e) (n .result) (listOf (s .result)) (n .ensures .equal) (s .ensures .list)
     (c .before .before .before .before .before .before .pre .1)
 
 write-pairs-requires : tie.Need-write-pairs-requires
@@ -34,12 +34,12 @@ write-pairs-requires c κs =
     let e = c .before .before .before .before .before .before .before .before .before .before .args .e in
     let s = c .before .before .before .before .before .before .before .sorted in
     let n = c .before .before .before .before .before .before .before .before .blocks-of in (
-      omega arith,
+      omega (arith, s .ensures .count, s .ensures .few),
       (
         rw (s .ensures .list)
             (each-sort byFirst
             (c .before .before .before .before .before .before .before .before .before .before .pre .0 .low)),
-        file-pairs-room (fileOf e) (n .result) (freeOf (s .result)) (n .ensures .equal) (s .ensures .list)
+        file-pairs-room (fileOf e) (n .result) (listOf (s .result)) (n .ensures .equal) (s .ensures .list)
             (c .before .before .before .before .before .before .before .before .before .before .pre .1)
             (c .before .before .before .write-line .ensures),
       ),
@@ -54,7 +54,7 @@ returns c =
     .before .args .e in
     let s = c .before .before .before .before .before .before .before .before .before .before .sorted in
     let n = c .before .before .before .before .before .before .before .before .before .before .before .blocks-of in
-    file-written (fileOf e) (n .result) (freeOf (s .result)) (n .ensures .equal) (s .ensures .list)
+    file-written (fileOf e) (n .result) (listOf (s .result)) (n .ensures .equal) (s .ensures .list)
     (c .before .before .before .before .before .before .write-line .ensures)
     (c .before .before .write-pairs .ensures)
 

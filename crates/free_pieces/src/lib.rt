@@ -7,6 +7,7 @@ mod allocating;
 mod few;
 mod lists;
 mod pairs;
+mod sorting;
 mod taking;
 
 pub use allocating::allocate;
@@ -22,6 +23,12 @@ pub struct Free {
 pub struct Pieces {
     pub count: usize,
     pub items: [Section; 13],
+}
+
+// The orders of pieces: the one of the bytes, by rising first block, and page order, by falling length.
+pub enum Order {
+    First,
+    Length,
 }
 
 // A piece that was taken and the pieces that are left, if one was found.

@@ -13,6 +13,8 @@ use Rattle.catalogue.specs.Reading.{Read, Reading, bad, every, got, isSound, ju
 use Rattle.catalogue.specs.Reading.{soundFile, soundFree, soundPiece, then, unsound}
 use Rattle.catalogue.specs.Version.{version1}
 use Rattle.soundness.proofs.Points.{false-true, is-false}
+use Rattle.soundness.proofs.Sounding.{free-few}
+use Rattle.free_pieces.specs.Free.{piecePlaces}
 use Rattle.decoder.specs.Entries.{acceptable, allAccepted}
 use Rattle.layout.proofs.Lists.{each-and, each-imp, each-left, each-right}
 use Rattle.layout.specs.Layout.{File, Layout, allPieces, fileBlocks, filePieces}
@@ -24,7 +26,7 @@ use Rattle.section.specs.Sections.{lengthOf, sharesBlock}
 use Rattle.section.specs.declared.Section.{Section}
 
 -- pieces of falling length, with heights below k, are at most k
-pub falling-few : (k : ℕ) {l : List Section} → Pairwise (λ (s t : Section). lengthOf t < lengthOf s) l
+falling-few : (k : ℕ) {l : List Section} → Pairwise (λ (s t : Section). lengthOf t < lengthOf s) l
     → Each (λ (s : Section). s .height .value < k) l
     → length l ≤ k
 falling-few k none e = omega arith
@@ -71,6 +73,10 @@ unfolding acceptable
 acceptable-sound fs e =
     each-every soundFile
     (each-imp (λ f q. and-true (leb (length (f .pieces)) 13) (soundFile f) q .1) (every-each acceptable fs e))
+
+-- a sound layout has at most 13 free pieces
+pub sound-free-few : (l : Layout) → isSound 13 l ≡ true → length (l .free) ≤ piecePlaces
+sound-free-few l e = let s = test-sound 13 l e in free-few l (s .most-blocks) (s .free-count)
 
 -- ---- what is judged
 

@@ -49,12 +49,12 @@ unlike-of l e =
     pairwise-imp (λ s t q. eqb-false (lengthOf s) (lengthOf t) (not-true (eqb (lengthOf s) (lengthOf t)) q))
     (pairwise-pairs _ l e)
 
-pub distinct-of : (l : List Section) → Pairwise Unlike l → distinct l ≡ true
+distinct-of : (l : List Section) → Pairwise Unlike l → distinct l ≡ true
 distinct-of l p =
     pairs-pairwise _ (pairwise-imp (λ s t q. ap not (ne-eqb (lengthOf s) (lengthOf t) q)) p)
 
 -- pairs of distinct lengths fall strictly in page order
-pub distinct-falls : (l : List Section) → distinct l ≡ true → falling (sortBy byLength l) ≡ true
+distinct-falls : (l : List Section) → distinct l ≡ true → falling (sortBy byLength l) ≡ true
 distinct-falls l e =
     pairs-pairwise _
     (pairwise-imp
@@ -65,7 +65,7 @@ distinct-falls l e =
     thin : AtMostOne (sortBy byLength l)
     thin h = omega (arith, distinct-at-most-one (unlike-of l e) h, sum-sort (ofHeight h) byLength l)
 
-pub falls-distinct : (l : List Section) → falling (sortBy byLength l) ≡ true → distinct l ≡ true
+falls-distinct : (l : List Section) → falling (sortBy byLength l) ≡ true → distinct l ≡ true
 falls-distinct l e = distinct-of l (at-most-one-distinct l thin)
   where
     unlike : Pairwise Unlike (sortBy byLength l)

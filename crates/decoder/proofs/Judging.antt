@@ -2,37 +2,19 @@
 use mathlib.Core.Bool.{Bool, _&&_, false, true}
 use mathlib.Core.List.{List}
 use mathlib.Core.Path.{_∙_, _≡_, ap, refl, sym}
-use Prim.Native.Nat.{_≤_, ℕ}
+use Prim.Native.Nat.{ℕ}
 use native.Mathlib.Omega.{arith}
-use borrow.Author.Tests.{ltb-true}
-use Rattle.catalogue.proofs.Tests.{pairwise-pairs, test-sound}
 use Rattle.catalogue.specs.Reading.{Reading, got, isSound, judged, readCatalogue, readLayout, sound, unsound}
 use Rattle.catalogue.specs.Version.{version1}
-use Rattle.decoder.proofs.Early.{falling-few}
-use Rattle.decoder.proofs.Files.{distinct-falls, distinct-of}
+use Rattle.decoder.proofs.Early.{sound-free-few}
 use Rattle.decoder.specs.Loading.{Judged, Ready, allZero, readingOf}
 use Rattle.decoder.specs.declared.Loaded.{Loaded}
-use Rattle.layout.proofs.Lists.{each-right, each-sort, length-sort, pairwise-imp}
-use Rattle.layout.specs.Layout.{Layout, byLength, filePieces}
-use Rattle.layout.specs.Lists.{sortBy}
-use Rattle.section.specs.Sections.{lengthOf}
+use Rattle.layout.specs.Layout.{Layout}
 use Rattle.soundness.proofs.Points.{false-true}
 use Rattle.soundness.specs.Counts.{Exact}
-use Rattle.free_pieces.specs.Free.{freeOf, piecePlaces}
+use Rattle.free_pieces.specs.Free.{freeOf}
 use Rattle.table.specs.Tables.{filesOf, layoutOf}
 use Rattle.table.specs.declared.Table.{Table}
-
--- a sound table has at most 13 free pieces
-pub few-free : (t : Table) → Exact t → isSound 13 (layoutOf t) ≡ true → t .free .count ≤ piecePlaces
-unfolding layoutOf
-few-free t x e =
-    let s = test-sound 13 (layoutOf t) e in
-    let free = freeOf (t .free) in
-    let falls =
-    pairwise-imp (λ a b. ltb-true (lengthOf b) (lengthOf a))
-    (pairwise-pairs _ (sortBy byLength free) (distinct-falls free (distinct-of free (s .free-distinct)))) in
-    let low = each-sort byLength (each-right (filePieces (filesOf t)) free (s .heights)) in
-    omega (arith, x .free, length-sort byLength free, falling-few 13 falls low)
 
 abbrev answer : Bool → Layout → Reading
 answer b l = elim b as (λ _. Reading) [ true ↦ sound l | false ↦ unsound ]
@@ -56,13 +38,13 @@ module _ (s : List ℕ) (t : Table) (b : Bool) where
         (judged-at ∙ ap (λ c. answer (c && isSound 13 (layoutOf t)) (layoutOf t)) z)
 
     pub judged-zero : allZero r ≡ true → Exact t → b ≡ isSound 13 (layoutOf t) → Judged s t b
-    unfolding readingOf
+    unfolding readingOf layoutOf
     judged-zero z x o =
         record {
           reading =
               ap (λ c. answer c (layoutOf t)) o
               ∙ sym (judged-at ∙ ap (λ c. answer (c && isSound 13 (layoutOf t)) (layoutOf t)) z);
-          few-free = λ u. few-free t x (sym o ∙ u);
+          few-free = λ u. omega (arith, x .free, sound-free-few (layoutOf t) (sym o ∙ u));
         }
 
   module _ (j : Judged s t b) (x : Exact t) where

@@ -1,10 +1,10 @@
 -- A table is sound exactly if its tests are passed. Assumes nothing.
-use mathlib.Core.Bool.{Bool, _&&_, false, not, true}
+use mathlib.Core.Bool.{Bool, false, not, true}
 use mathlib.Core.List.{List}
 use mathlib.Core.Path.{_∙_, _≡_, ap₂, refl, sym}
 use Prim.Native.Nat.{_-_, _≤_, ℕ}
 use native.Mathlib.Omega.{arith}
-use lib.Count.{ones}
+use lib.Count.{ones, ones-le}
 use lib.Dec.{eqb, leb}
 use lib.ListN.{length}
 use borrow.Author.Tests.{eq-eqb, le-leb, leb-true}
@@ -12,17 +12,16 @@ use Rattle.catalogue.proofs.Tests.{and-intro}
 use Rattle.catalogue.specs.Reading.{every, isSound, soundFile, soundFree, soundPiece}
 use Rattle.catalogue.specs.Version.{version1}
 use Rattle.layout.specs.Layout.{Layout, allPieces, blockCount, fileBlocks, freeBlocks}
-use Rattle.layout.specs.Lists.{Each, sumOf}
+use Rattle.layout.specs.Lists.{sumOf}
 use Rattle.section.proofs.Booleans.{and-true}
-use Rattle.section.specs.Limits.{mostFiles}
-use Rattle.section.specs.Sections.{Addressable}
+use Rattle.section.specs.Limits.{greatestDisk, mostFiles}
 use Rattle.section.specs.declared.Section.{Section}
 use Rattle.soundness.proofs.Ordered.{distinct, order-both, order-distinct, order-rises, rising}
 use Rattle.soundness.proofs.Points.{false-true, is-false}
 use Rattle.soundness.specs.Checking.{idsRise, noneShared, sumsAgree}
 use Rattle.soundness.specs.Counts.{Counted, Exact}
 use Rattle.soundness.specs.Order.{inOrder}
-use Rattle.free_pieces.specs.Free.{freeOf}
+use Rattle.free_pieces.specs.Free.{freeOf, piecePlaces}
 use Rattle.table.specs.Tables.{filesOf, layoutOf}
 use Rattle.table.specs.declared.Table.{Table}
 
@@ -81,6 +80,13 @@ module _ (l : Layout) where
       (and-intro (order-distinct (l .free) (p .2))
       (and-intro (a3 .1) (eq-eqb (length (l .free)) (ones (freeBlocks l)) count))))
       (and-intro (p .3) (p .4))))))))
+
+-- ---- the free pieces
+
+-- as many free pieces as the free blocks have ones are at most 13 on every disk
+pub free-few : (l : Layout) → l .blocks ≤ greatestDisk → length (l .free) ≡ ones (freeBlocks l)
+    → length (l .free) ≤ piecePlaces
+free-few l most count = omega (arith, ones-le 13 (freeBlocks l) (omega arith))
 
 -- ---- a table that was read
 

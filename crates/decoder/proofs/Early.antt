@@ -1,4 +1,5 @@
--- A file that is not acceptable is in no sound layout, so reading may stop at it. Assumes nothing.
+-- A file that is not acceptable is in no sound layout, nor are more free pieces than a list of few has places, so
+-- reading may stop there. Assumes nothing.
 use mathlib.Core.Bool.{Bool, _&&_, false, not, true}
 use mathlib.Core.List.{List, [], _∷_}
 use mathlib.Core.Path.{_∙_, _≡_, ap, refl, sym}
@@ -14,6 +15,7 @@ use Rattle.catalogue.specs.Reading.{soundFile, soundFree, soundPiece, then, uns
 use Rattle.catalogue.specs.Version.{version1}
 use Rattle.soundness.proofs.Points.{false-true, is-false}
 use Rattle.soundness.proofs.Sounding.{free-few}
+use Rattle.decoder.proofs.Runs.{pairs-count}
 use Rattle.free_pieces.specs.Free.{piecePlaces}
 use Rattle.decoder.specs.Entries.{acceptable, allAccepted}
 use Rattle.layout.proofs.Lists.{each-and, each-imp, each-left, each-right}
@@ -91,13 +93,33 @@ restOf b fs r =
     then (readPairs (ones (b - sumOf fileBlocks fs)) (version1 .heights) 2 r) λ free r′.
     got (record { blocks = b; files = fs; free = free }) r′
 
-unacceptable : (b : ℕ) (fs : List File) (x : Read (List Section)) → every acceptable fs ≡ false
-    → judged version1 (then x λ free r′. got (record { blocks = b; files = fs; free = free }) r′) ≡ unsound
+-- what was read is no sound layout, if none has these files and as many free pieces as their blocks leave ones
+rest-unsound : (b : ℕ) (fs : List File) (r : List ℕ)
+    → ((free : List Section) → length free ≡ ones (b - sumOf fileBlocks fs)
+    → isSound 13 (record { blocks = b; files = fs; free = free }) ≡ true → ⊥)
+    → judged version1 (restOf b fs r) ≡ unsound
 unfolding judged
-unacceptable b fs (got free r) e =
-    judged-unsound (record { blocks = b; files = fs; free = free }) r
-    (is-false _ (λ t. false-true (sym e ∙ sound-acceptable (record { blocks = b; files = fs; free = free }) t)))
-unacceptable b fs bad e = refl
+rest-unsound b fs r h = go (readPairs (ones (b - sumOf fileBlocks fs)) (version1 .heights) 2 r) refl
+  where
+    go : (x : Read (List Section)) → readPairs (ones (b - sumOf fileBlocks fs)) (version1 .heights) 2 r ≡ x
+        → judged version1 (then x λ free r′. got (record { blocks = b; files = fs; free = free }) r′) ≡ unsound
+    go (got free r′) e =
+        judged-unsound (record { blocks = b; files = fs; free = free }) r′
+        (is-false _ (h free (pairs-count (version1 .heights) 2 (ones (b - sumOf fileBlocks fs)) r free r′ e)))
+    go bad e = refl
+
+unacceptable : (b : ℕ) (fs : List File) (r : List ℕ) → every acceptable fs ≡ false
+    → judged version1 (restOf b fs r) ≡ unsound
+unacceptable b fs r e =
+    rest-unsound b fs r (λ free _ t. false-true
+    (sym e ∙ sound-acceptable (record { blocks = b; files = fs; free = free }) t))
+
+-- more free pieces than that need not be read
+pub many-free : (b : ℕ) (fs : List File) (r : List ℕ) → piecePlaces < ones (b - sumOf fileBlocks fs)
+    → judged version1 (restOf b fs r) ≡ unsound
+many-free b fs r h =
+    rest-unsound b fs r
+    (λ free e t. omega (arith, sound-free-few (record { blocks = b; files = fs; free = free }) t))
 
 pub stopped : (b : ℕ) (y : Read (List File)) → allAccepted y ≡ bad → judged version1 (then y (restOf b)) ≡ unsound
 unfolding allAccepted judged
@@ -107,7 +129,7 @@ stopped b (got fs r) e = go (every acceptable fs) refl e
         → _≡_ {A = Read (List File)} (elim t as (λ _. Read (List File)) [ true ↦ got fs r | false ↦ bad ]) bad
         → judged version1 (restOf b fs r) ≡ unsound
     go true p q = absurd (let z : _≡_ {A = ℕ} 0 1 = cc (q) in omega arith)
-    go false p q = unacceptable b fs (readPairs (ones (b - sumOf fileBlocks fs)) (version1 .heights) 2 r) p
+    go false p q = unacceptable b fs r p
 stopped b bad e = refl
 
 pub all-read : (y : Read (List File)) (fs : List File) (r : List ℕ) → allAccepted y ≡ got fs r

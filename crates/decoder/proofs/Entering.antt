@@ -9,8 +9,8 @@ use lib.ListN.{drop, length}
 use borrow.Author.Tests.{eq-eqb, le-leb, lt-leb, ne-eqb}
 use Rattle.catalogue.specs.Reading.{Read, bad, fileRead, got, readEntry, readField, readFrom, readPairs, then}
 use Rattle.catalogue.specs.Version.{version1}
-use Rattle.decoder.proofs.Files.{file-parts, file-read, file-refused}
-use Rattle.decoder.proofs.Runs.{pairs-bad, pairs-got}
+use Rattle.decoder.proofs.Files.{file-many, file-parts, file-read, file-refused}
+use Rattle.decoder.proofs.Runs.{pairs-bad, pairs-count, pairs-got}
 use Rattle.decoder.specs.Entries.{EntryAt, NoFile, accepted, entryIn, isFile}
 use Rattle.decoder.specs.Fields.{FieldAt, PairsAt}
 use Rattle.soundness.specs.Order.{inOrder}
@@ -22,7 +22,7 @@ use Rattle.layout.specs.Layout.{File, blockCount, byLength}
 use Rattle.section.proofs.Nested.{inside}
 use Rattle.section.specs.Sections.{lengthOf}
 use Rattle.section.specs.declared.Section.{Section}
-use Rattle.free_pieces.specs.Free.{freeOf}
+use Rattle.free_pieces.specs.Free.{listOf, piecePlaces}
 use Rattle.table.specs.Tables.{fileOf}
 use Rattle.table.specs.declared.Entry.{Entry}
 
@@ -69,6 +69,20 @@ pub short-entry : (s : List ℕ) (e : EntryRead) → length s < 4
 unfolding accepted
 short-entry s e h k = no-entry-at s e (ap accepted (entry-of-few s h)) k
 
+-- a file of more pieces than an entry has places
+pub many-pieces : (s : List ℕ) (i n : ℕ) → FieldAt s 0 i → FieldAt s 2 n → piecePlaces < ones n → (e : EntryRead)
+    → NoFile e
+    → EntryAt s e
+unfolding accepted
+many-pieces s i n p q h e k =
+    let x = readPairs (ones n) (version1 .heights) 2 (drop 4 s) in
+    no-entry-at s e (ap accepted (entry-at s i n x p q refl) ∙ go x refl) k
+  where
+    go : (x : Read (List Section)) → readPairs (ones n) (version1 .heights) 2 (drop 4 s) ≡ x
+        → accepted (then x λ l r. fileRead i n l r) ≡ bad
+    go (got l r) z = file-many i n l r (omega (arith, pairs-count (version1 .heights) 2 (ones n) (drop 4 s) l r z))
+    go bad z = refl
+
 module _ (s : List ℕ) (i n : ℕ) (p : FieldAt s 0 i) (q : FieldAt s 2 n) (x : PairsRead)
     (y : PairsAt s 4 (ones n) x) where
   pub unread-entry : (e : EntryRead) → x .ok ≡ false
@@ -84,79 +98,65 @@ module _ (s : List ℕ) (i n : ℕ) (p : FieldAt s 0 i) (q : FieldAt s 2 n) (x :
 
   pairs-read : x .ok ≡ true
       → accepted (readEntry (version1 .heights) 2 s)
-      ≡ accepted (fileRead i n (freeOf (x .list)) (drop (4 + 4 * ones n) s))
+      ≡ accepted (fileRead i n (listOf (x .list)) (drop (4 + 4 * ones n) s))
   pairs-read o =
       ap accepted
-      (entry-at s i n (got (freeOf (x .list)) (drop (4 + 4 * ones n) s)) p q
+      (entry-at s i n (got (listOf (x .list)) (drop (4 + 4 * ones n) s)) p q
       (y .meaning ∙ pairs-got x _ o))
 
   module _ (o : x .ok ≡ true) where
-    counted : length (freeOf (x .list)) ≡ ones n
+    counted : length (listOf (x .list)) ≡ ones n
     counted = y .exact ∙ y .count o
 
-    pub refused-entry : (e : EntryRead) → isFile i n (freeOf (x .list)) ≡ false
+    few : length (listOf (x .list)) ≤ piecePlaces
+    few = omega (arith, y .exact, y .places)
+
+    pub refused-entry : (e : EntryRead) → isFile i n (listOf (x .list)) ≡ false
         → NoFile e
         → EntryAt s e
     refused-entry e f k =
         no-entry-at s e
-        (pairs-read o ∙ file-refused i n (freeOf (x .list)) (drop (4 + 4 * ones n) s) counted (p .most) f) k
+        (pairs-read o ∙ file-refused i n (listOf (x .list)) (drop (4 + 4 * ones n) s) f) k
 
-    pub some-entry : (e : Entry) → isFile i n (freeOf (x .list)) ≡ true → Sorts i (x .list) e
+    pub some-entry : (e : Entry) → isFile i n (listOf (x .list)) ≡ true → Sorts i (x .list) e
         → EntryAt s (record { ok = true; n = n; size = 4 + 4 * ones n; entry = e })
     unfolding entryIn
     some-entry e f w =
-        let d = file-parts i n (freeOf (x .list)) f in
+        let d = file-parts i n (listOf (x .list)) f in
         record {
           meaning =
               pairs-read o
-              ∙ (file-read i n (freeOf (x .list)) (drop (4 + 4 * ones n) s) counted (p .most) f
+              ∙ (file-read i n (listOf (x .list)) (drop (4 + 4 * ones n) s) counted (p .most) few f
               ∙ ap₂ (λ j l. got (record { id = j; pieces = l }) (drop (4 + 4 * ones n) s)) (sym (w .id))
               (sym (w .list)));
           pages =
-              sym (d .1)
-              ∙ (sym (sum-sort lengthOf byLength (freeOf (x .list))) ∙ sym (ap blockCount (w .list)));
+              sym (d .0)
+              ∙ (sym (sum-sort lengthOf byLength (listOf (x .list))) ∙ sym (ap blockCount (w .list)));
           most = q .most;
-          places = omega (arith, w .count, y .exact, d .0);
+          places = omega (arith, w .count, y .places);
           inside = y .inside o;
         }
-
-    pub few-pieces : isFile i n (freeOf (x .list)) ≡ true → x .list .count ≤ 13
-    few-pieces f = omega (arith, y .exact, file-parts i n (freeOf (x .list)) f .0)
 
 -- ---- what the code tests
 
 module _ (i n : ℕ) (l : List Section) where
-  pub many-pieces : 13 < length l → isFile i n l ≡ false
+  pub no-id : i ≡ 0 → isFile i n l ≡ false
   unfolding isFile
-  many-pieces h = simp (lt-leb (length l) 13 h)
+  no-id e = simp (lt-leb 1 i (omega arith))
 
-  pub no-id : length l ≤ 13 → i ≡ 0 → isFile i n l ≡ false
+  pub no-blocks : (i ≡ 0 → ⊥) → n ≡ 0 → isFile i n l ≡ false
   unfolding isFile
-  no-id h e = simp (le-leb (length l) 13 h, lt-leb 1 i (omega arith))
+  no-blocks a e = simp (le-leb 1 i (omega (arith, a)), lt-leb 1 n (omega arith))
 
-  pub no-blocks : length l ≤ 13 → (i ≡ 0 → ⊥) → n ≡ 0 → isFile i n l ≡ false
+  pub other-sum : (i ≡ 0 → ⊥) → (n ≡ 0 → ⊥) → (blockCount l ≡ n → ⊥) → isFile i n l ≡ false
   unfolding isFile
-  no-blocks h a e = simp (le-leb (length l) 13 h, le-leb 1 i (omega (arith, a)), lt-leb 1 n (omega arith))
+  other-sum a b e =
+      simp (le-leb 1 i (omega (arith, a)), le-leb 1 n (omega (arith, b)), ne-eqb (blockCount l) n e)
 
-  pub other-sum : length l ≤ 13 → (i ≡ 0 → ⊥) → (n ≡ 0 → ⊥) → (blockCount l ≡ n → ⊥) → isFile i n l ≡ false
+  pub order-left : (i ≡ 0 → ⊥) → (n ≡ 0 → ⊥) → blockCount l ≡ n → isFile i n l ≡ inOrder l
   unfolding isFile
-  other-sum h a b e =
-      simp (
-        le-leb (length l) 13 h,
-        le-leb 1 i (omega (arith, a)),
-        le-leb 1 n (omega (arith, b)),
-        ne-eqb (blockCount l) n e,
-      )
-
-  pub order-left : length l ≤ 13 → (i ≡ 0 → ⊥) → (n ≡ 0 → ⊥) → blockCount l ≡ n → isFile i n l ≡ inOrder l
-  unfolding isFile
-  order-left h a b e =
-      simp (
-        le-leb (length l) 13 h,
-        le-leb 1 i (omega (arith, a)),
-        le-leb 1 n (omega (arith, b)),
-        eq-eqb (blockCount l) n e,
-      )
+  order-left a b e =
+      simp (le-leb 1 i (omega (arith, a)), le-leb 1 n (omega (arith, b)), eq-eqb (blockCount l) n e)
 
 pub entry-got : (e : EntryRead) (r : List ℕ) → e .ok ≡ true → entryIn e r ≡ got (fileOf (e .entry)) r
 unfolding entryIn

@@ -19,6 +19,7 @@ use Rattle.soundness.proofs.Points.{false-true, is-false}
 use Rattle.soundness.specs.Order.{inOrder}
 use Rattle.decoder.specs.Entries.{acceptable, accepted, isFile}
 use Rattle.decoder.specs.Fields.{fieldValues}
+use Rattle.free_pieces.specs.Free.{piecePlaces}
 use Rattle.layout.proofs.Lists.{length-sort, pairwise-imp, sort-sorted, sum-sort}
 use Rattle.layout.proofs.Ones.{at-most-one-distinct, distinct-at-most-one}
 use Rattle.layout.proofs.Splitting.{AtMostOne}
@@ -78,17 +79,15 @@ falls-distinct l e = distinct-of l (at-most-one-distinct l thin)
 
 -- ---- a file
 
-pub file-parts : (i n : ℕ) (l : List Section) → isFile i n l ≡ true
-    → (length l ≤ 13) × (blockCount l ≡ n) × (inOrder l ≡ true)
+pub file-parts : (i n : ℕ) (l : List Section) → isFile i n l ≡ true → (blockCount l ≡ n) × (inOrder l ≡ true)
 unfolding isFile
 file-parts i n l e =
-    let a = and-true (leb (length l) 13) _ e in
-    let b = and-true (leb 1 i) _ (a .1) in
+    let b = and-true (leb 1 i) _ e in
     let c = and-true (leb 1 n) _ (b .1) in
     let d = and-true (eqb (blockCount l) n) _ (c .1) in
-    (leb-true (length l) 13 (a .0), eqb-true (blockCount l) n (d .0), d .1)
+    (eqb-true (blockCount l) n (d .0), d .1)
 
-module _ (i n : ℕ) (l : List Section) (r : List ℕ) (counted : length l ≡ ones n) (small : i < fieldValues) where
+module _ (i n : ℕ) (l : List Section) (r : List ℕ) where
   abbrev made : File
   made = record { id = i; pieces = sortBy byLength l }
 
@@ -98,56 +97,67 @@ module _ (i n : ℕ) (l : List Section) (r : List ℕ) (counted : length l ≡ o
   size-made : length (sortBy byLength l) ≡ length l
   size-made = length-sort byLength l
 
-  is-acceptable : isFile i n l ≡ true → acceptable made ≡ true
-  unfolding isFile acceptable
-  is-acceptable e =
-      let a = and-true _ _ e in
-      let b = and-true (leb 1 i) _ (a .1) in
-      let c = and-true _ _ (b .1) in
-      let d = and-true _ _ (c .1) in
-      let sum = eqb-true (blockCount l) n (d .0) in
-      let all : fileBlocks made ≡ n = blocks-made ∙ sum in
-      let few : length l ≤ 13 = leb-true (length l) 13 (a .0) in
-      let some : 1 ≤ n = leb-true 1 n (c .0) in
-      and-intro (le-leb (length (made .pieces)) 13 (omega (arith, size-made)))
-      (and-intro (b .0)
-      (and-intro (le-leb i 65535 (omega arith))
-      (and-intro (le-leb 1 (fileBlocks made) (omega arith))
-      (and-intro (distinct-falls l (order-distinct l (d .1)))
-      (eq-eqb (length (made .pieces)) (ones (fileBlocks made)) (size-made ∙ (counted ∙ sym (ap ones all))))))))
+  acceptable-few : acceptable made ≡ true → length l ≤ piecePlaces
+  unfolding acceptable
+  acceptable-few e =
+      let a = and-true (leb (length (made .pieces)) piecePlaces) _ e in
+      omega (arith, size-made, leb-true (length (made .pieces)) piecePlaces (a .0))
 
   acceptable-is : eqb (blockCount l) n && rising l ≡ true → acceptable made ≡ true → isFile i n l ≡ true
   unfolding isFile acceptable
   acceptable-is t e =
       let s = and-true _ _ t in
-      let a = and-true _ _ e in
+      let a = and-true (leb (length (made .pieces)) piecePlaces) _ e in
       let b = and-true (leb 1 i) _ (a .1) in
       let c = and-true (leb i greatestId) _ (b .1) in
       let d = and-true _ _ (c .1) in
       let f = and-true (falling (made .pieces)) (eqb (length (made .pieces)) (ones (fileBlocks made))) (d .1) in
       let sum = eqb-true (blockCount l) n (s .0) in
-      let few : length (made .pieces) ≤ 13 = leb-true (length (made .pieces)) 13 (a .0) in
       let some : 1 ≤ fileBlocks made = leb-true 1 (fileBlocks made) (d .0) in
-      and-intro (le-leb (length l) 13 (omega (arith, size-made)))
-      (and-intro (b .0)
+      and-intro (b .0)
       (and-intro (le-leb 1 n (omega (arith, blocks-made)))
-      (and-intro (s .0) (order-both l (s .1) (falls-distinct l (f .0))))))
+      (and-intro (s .0) (order-both l (s .1) (falls-distinct l (f .0)))))
 
-  pub file-read : isFile i n l ≡ true → accepted (fileRead i n l r) ≡ got made r
+  -- no file is read where the one that the pairs make is not acceptable
+  file-bad : (eqb (blockCount l) n && rising l ≡ true → acceptable made ≡ true → ⊥)
+      → accepted (fileRead i n l r) ≡ bad
   unfolding fileRead accepted
-  file-read e =
-      let d = file-parts i n l e in
-      ap (λ t. accepted (elim t as (λ _. Read File) [ true ↦ got made r | false ↦ bad ]))
-      (and-intro (eq-eqb (blockCount l) n (d .1)) (order-rises l (d .2)))
-      ∙ ap (λ t. elim t as (λ _. Read File) [ true ↦ got made r | false ↦ bad ]) (is-acceptable e)
-
-  pub file-refused : isFile i n l ≡ false → accepted (fileRead i n l r) ≡ bad
-  unfolding fileRead accepted
-  file-refused e = go (eqb (blockCount l) n && rising l) refl
+  file-bad x = go (eqb (blockCount l) n && rising l) refl
     where
       go : (t : Bool) → eqb (blockCount l) n && rising l ≡ t
           → accepted (elim t as (λ _. Read File) [ true ↦ got made r | false ↦ bad ]) ≡ bad
       go true q =
           ap (λ u. elim u as (λ _. Read File) [ true ↦ got made r | false ↦ bad ])
-          (is-false (acceptable made) (λ u. false-true (sym e ∙ acceptable-is q u)))
+          (is-false (acceptable made) (x q))
       go false q = refl
+
+  pub file-refused : isFile i n l ≡ false → accepted (fileRead i n l r) ≡ bad
+  file-refused e = file-bad (λ q u. false-true (sym e ∙ acceptable-is q u))
+
+  pub file-many : piecePlaces < length l → accepted (fileRead i n l r) ≡ bad
+  file-many h = file-bad (λ q u. omega (arith, acceptable-few u))
+
+  module _ (counted : length l ≡ ones n) (small : i < fieldValues) (few : length l ≤ piecePlaces) where
+    is-acceptable : isFile i n l ≡ true → acceptable made ≡ true
+    unfolding isFile acceptable
+    is-acceptable e =
+        let b = and-true (leb 1 i) _ e in
+        let c = and-true _ _ (b .1) in
+        let d = and-true _ _ (c .1) in
+        let sum = eqb-true (blockCount l) n (d .0) in
+        let all : fileBlocks made ≡ n = blocks-made ∙ sum in
+        let some : 1 ≤ n = leb-true 1 n (c .0) in
+        and-intro (le-leb (length (made .pieces)) piecePlaces (omega (arith, size-made)))
+        (and-intro (b .0)
+        (and-intro (le-leb i 65535 (omega arith))
+        (and-intro (le-leb 1 (fileBlocks made) (omega arith))
+        (and-intro (distinct-falls l (order-distinct l (d .1)))
+        (eq-eqb (length (made .pieces)) (ones (fileBlocks made)) (size-made ∙ (counted ∙ sym (ap ones all))))))))
+
+    pub file-read : isFile i n l ≡ true → accepted (fileRead i n l r) ≡ got made r
+    unfolding fileRead accepted
+    file-read e =
+        let d = file-parts i n l e in
+        ap (λ t. accepted (elim t as (λ _. Read File) [ true ↦ got made r | false ↦ bad ]))
+        (and-intro (eq-eqb (blockCount l) n (d .0)) (order-rises l (d .1)))
+        ∙ ap (λ t. elim t as (λ _. Read File) [ true ↦ got made r | false ↦ bad ]) (is-acceptable e)

@@ -2,15 +2,16 @@
 use mathlib.Core.Bool.{false, true}
 use mathlib.Core.List.{List, [], _++_, _∷_, append-nil}
 use mathlib.Core.Path.{_∙_, _≡_, ap, refl, sym}
-use Prim.Native.Nat.{_*_, _+_, _-_, _<_, _≤_, suc, ℕ}
+use Prim.Native.Nat.{_*_, _+_, _-_, _<_, _≤_, suc, zero, ℕ}
 use native.Mathlib.Omega.{arith}
 use lib.ListN.{drop, length, set, take}
 use lib.Seq.{append-snoc, length-take-le}
+use Rattle.catalogue.proofs.ReadOnly.{got-value, then-inv}
 use Rattle.catalogue.specs.Reading.{Read, bad, got, readPair, readPairs, then}
 use Rattle.catalogue.specs.Version.{version1}
 use Rattle.decoder.proofs.Places.{drop-same, pair-bad, pair-got}
 use Rattle.soundness.proofs.Joined.{pushed}
-use Rattle.decoder.specs.Fields.{PairAt, PairsAt, mostOnes, pairsIn, readAfter}
+use Rattle.decoder.specs.Fields.{PairAt, PairsAt, pairsIn, readAfter}
 use Rattle.decoder.specs.declared.PairRead.{PairRead}
 use Rattle.decoder.specs.declared.PairsRead.{PairsRead}
 use Rattle.layout.proofs.Lists.{sum-append}
@@ -19,7 +20,7 @@ use Rattle.layout.specs.Lists.{sumOf}
 use Rattle.section.proofs.Nested.{inside}
 use Rattle.section.specs.Limits.{greatestDisk}
 use Rattle.section.specs.declared.Section.{Section}
-use Rattle.free_pieces.specs.Free.{freeOf}
+use Rattle.free_pieces.specs.Free.{listOf, piecePlaces}
 
 pub sum-pushed {ℓ} : {A : Type ℓ} (w : A → ℕ) (p : List A) (m : ℕ) (a : A) → m < length p
     → sumOf w (take (m + 1) (set p m a)) ≡ sumOf w (take m p) + w a
@@ -34,6 +35,17 @@ pub after-more : {A : Type 0} (acc : List A) (a : A) (x : Read (List A))
     → readAfter acc (then x λ l r. got (a ∷ l) r) ≡ readAfter (acc ++ (a ∷ [])) x
 after-more acc a (got l r) = ap (λ z. got z r) (sym (append-snoc acc a l))
 after-more acc a bad = refl
+
+-- as many pairs are read as were asked for
+pub pairs-count : (k w c : ℕ) (bs : List ℕ) (l : List Section) (r : List ℕ) → readPairs c k w bs ≡ got l r
+    → length l ≡ c
+unfolding readPairs
+pairs-count k w zero bs l r e = sym (ap length (got-value [] l bs r e))
+pairs-count k w (suc c) bs l r e =
+    let x = then-inv (readPair k w bs) (λ s r. then (readPairs c k w r) λ l r′. got (s ∷ l) r′) l r e in
+    let y = then-inv (readPairs c k w (x .1)) (λ l r′. got (x .0 ∷ l) r′) l r (x .3) in
+    sym (ap length (got-value (x .0 ∷ y .0) l (y .1) r (y .3)))
+    ∙ ap suc (pairs-count k w c (x .1) (y .0) (y .1) (y .2))
 
 abbrev pub PairsLeft : ℕ → List ℕ → Read (List Section)
 PairsLeft c bs = readPairs c (version1 .heights) 2 bs
@@ -102,7 +114,7 @@ left-end s at count items =
 
 pub no-pairs-at : (s : List ℕ) (at n : ℕ) (p : PairsRead) → PairsLeft n (drop at s) ≡ bad
     → (p .ok ≡ false) × (p .sum ≡ 0) × (p .list .count ≡ 0) → PairsAt s at n p
-unfolding pairsIn freeOf
+unfolding pairsIn listOf
 no-pairs-at s at n p e k =
     record {
       meaning = e ∙ sym (rw (k .0) refl);
@@ -116,10 +128,10 @@ no-pairs-at s at n p e k =
 
 pub some-pairs-at : (s : List ℕ) (at n sum : ℕ) (items : List Section)
     → PairsLeft n (drop at s) ≡ got (take n items) (drop (at + 4 * n) s)
-    → sum ≡ blockCount (take n items) → sum ≤ greatestDisk * n → n ≤ mostOnes → n ≤ length items
+    → sum ≡ blockCount (take n items) → sum ≤ greatestDisk * n → n ≤ piecePlaces → n ≤ length items
     → at + 4 * n ≤ length s
     → PairsAt s at n (record { ok = true; sum = sum; list = record { count = n; items = items } })
-unfolding pairsIn freeOf
+unfolding pairsIn listOf
 some-pairs-at s at n sum items e q m h k l =
     record {
       meaning = e;
@@ -131,7 +143,7 @@ some-pairs-at s at n sum items e q m h k l =
       inside = λ _. l;
     }
 
-pub pairs-got : (p : PairsRead) (r : List ℕ) → p .ok ≡ true → pairsIn p r ≡ got (freeOf (p .list)) r
+pub pairs-got : (p : PairsRead) (r : List ℕ) → p .ok ≡ true → pairsIn p r ≡ got (listOf (p .list)) r
 unfolding pairsIn
 pairs-got p r e = rw e
 

@@ -2,19 +2,19 @@
 use mathlib.Core.Bool.{false, true}
 use mathlib.Core.List.{List}
 use mathlib.Core.Path.{_∙_, _≡_, ap, sym}
-use Prim.Native.Nat.{_*_, _+_, _-_, ℕ}
+use Prim.Native.Nat.{_*_, _+_, _-_, _<_, ℕ}
 use native.Mathlib.Omega.{arith}
 use lib.Count.{ones}
-use lib.ListN.{drop, length-map, take}
+use lib.ListN.{drop, length, length-map, take}
 use lib.Seq.{length-take-le}
-use Rattle.catalogue.specs.Reading.{bad, got, readCatalogue, readPairs, unsound}
+use Rattle.catalogue.specs.Reading.{got, readCatalogue, readPairs, unsound}
 use Rattle.catalogue.specs.Version.{version1}
 use Rattle.decoder.proofs.EntryRuns.{EntriesLeft}
 use Rattle.decoder.proofs.Filled.{FilesAt, filled-end, filled-sum}
 use Rattle.soundness.proofs.Joined.{filesTo}
 use Rattle.soundness.proofs.Points.{false-true}
 use Rattle.decoder.proofs.Runs.{pairs-bad, pairs-got}
-use Rattle.decoder.proofs.Whole.{bad-free, got-layout, got-sound}
+use Rattle.decoder.proofs.Whole.{bad-free, got-layout, got-sound, many-free-pairs}
 use Rattle.decoder.specs.Entries.{allAccepted}
 use Rattle.decoder.specs.Fields.{PairsAt, pairsIn}
 use Rattle.soundness.specs.Counts.{Exact}
@@ -22,10 +22,11 @@ use Rattle.decoder.specs.Loading.{HeaderAt, TableAt}
 use Rattle.decoder.specs.declared.PairsRead.{PairsRead}
 use Rattle.decoder.specs.declared.TableRead.{TableRead}
 use Rattle.layout.proofs.MergeAll.{rest}
-use Rattle.layout.specs.Layout.{fileBlocks}
+use Rattle.layout.specs.Layout.{blockCount, fileBlocks}
 use Rattle.layout.specs.Lists.{sumOf}
 use Rattle.section.proofs.Nested.{inside}
-use Rattle.free_pieces.specs.Free.{freeOf}
+use Rattle.free_pieces.specs.Free.{Lists, freeOf, listOf, piecePlaces}
+use Rattle.free_pieces.specs.declared.Free.{Free}
 use Rattle.table.specs.Tables.{fileOf, filesOf, layoutOf}
 use Rattle.table.specs.declared.Entry.{Entry}
 use Rattle.table.specs.declared.Table.{Table}
@@ -43,49 +44,55 @@ unread-at s t e k =
     }
 
 module _ (s : List ℕ) (b k : ℕ) (h : HeaderAt s b k) (files : List Entry) (at sum i : ℕ)
-    (f : FilesAt s k files at sum i) (e : i ≡ k) (n : ℕ) (rest : n ≡ b - sum) (x : PairsRead)
-    (z : PairsAt s at (ones n) x) where
+    (f : FilesAt s k files at sum i) (e : i ≡ k) (n : ℕ) (rest : n ≡ b - sum) where
   all-files : allAccepted (EntriesLeft k (drop 6 s)) ≡ got (filesTo k files) (drop at s)
   all-files = filled-end s k files at sum i f e
 
   free-blocks : n ≡ b - sumOf fileBlocks (filesTo k files)
   free-blocks = rest ∙ ap (λ m. b - m) (filled-sum s k files at sum i f e)
 
-  free-pairs : readPairs (ones (b - sumOf fileBlocks (filesTo k files))) (version1 .heights) 2 (drop at s)
-      ≡ pairsIn x (drop (at + 4 * ones n) s)
-  free-pairs = ap (λ m. readPairs (ones m) (version1 .heights) 2 (drop at s)) (sym free-blocks) ∙ z .meaning
+  pub unread-many : piecePlaces < ones n → readCatalogue version1 s ≡ unsound
+  unread-many l =
+      many-free-pairs s b k h (filesTo k files) (drop at s) all-files (omega (arith, ap ones free-blocks))
 
-  pub unread-free : x .ok ≡ false → readCatalogue version1 s ≡ unsound
-  unread-free u = bad-free s b k h (filesTo k files) (drop at s) all-files (free-pairs ∙ pairs-bad x _ u)
+  module _ (x : PairsRead) (z : PairsAt s at (ones n) x) where
+    free-pairs : readPairs (ones (b - sumOf fileBlocks (filesTo k files))) (version1 .heights) 2 (drop at s)
+        ≡ pairsIn x (drop (at + 4 * ones n) s)
+    free-pairs = ap (λ m. readPairs (ones m) (version1 .heights) 2 (drop at s)) (sym free-blocks) ∙ z .meaning
 
-  abbrev table : Table
-  table = record { blocks = b; count = k; files = files; free = x .list }
+    pub unread-free : x .ok ≡ false → readCatalogue version1 s ≡ unsound
+    unread-free u = bad-free s b k h (filesTo k files) (drop at s) all-files (free-pairs ∙ pairs-bad x _ u)
 
-  exact-table : Exact table
-  unfolding filesOf
-  exact-table =
-      record {
-        sized = record { files = h .few; free = omega (arith, z .places); each = f .each };
-        array = f .exact;
-        files = length-map (take k files) fileOf ∙ length-take-le k files (omega (arith, f .exact, h .few));
-        free = z .exact;
-      }
+    module _ (free : Free) (w : Lists (x .list .count) (listOf (x .list)) free) where
+      abbrev table : Table
+      table = record { blocks = b; count = k; files = files; free = free }
 
-  pub table-at : x .ok ≡ true
-      → TableAt s (record { ok = true; sum = sum; free = x .sum; at = at + 4 * ones n; table = table })
-  unfolding layoutOf filesOf
-  table-at u =
-      record {
-        refused = λ t. false-true (sym t);
-        read = λ _.
-            got-layout s b k h (filesTo k files) (drop at s) all-files (freeOf (x .list))
-            (drop (at + 4 * ones n) s) (free-pairs ∙ pairs-got x _ u);
-        counted = λ _. record {
-          pages-sum = filled-sum s k files at sum i f e;
-          free-sum = z .equal;
-          sound-files = got-sound s b k h (filesTo k files) (drop at s) all-files;
-          free-count = z .exact ∙ (z .count u ∙ ap ones free-blocks);
-        };
-        exact = exact-table;
-        inside = z .inside u;
-      }
+      exact-table : Exact table
+      unfolding filesOf
+      exact-table =
+          record {
+            sized = record { files = h .few; free = omega (arith, w .count, z .places); each = f .each };
+            array = f .exact;
+            files = length-map (take k files) fileOf ∙ length-take-le k files (omega (arith, f .exact, h .few));
+            free = ap length (w .list) ∙ (w .exact ∙ sym (w .count));
+          }
+
+      pub table-at : x .ok ≡ true
+          → TableAt s (record { ok = true; sum = sum; free = x .sum; at = at + 4 * ones n; table = table })
+      unfolding layoutOf filesOf
+      table-at u =
+          record {
+            refused = λ t. false-true (sym t);
+            read = λ _.
+                got-layout s b k h (filesTo k files) (drop at s) all-files (freeOf free)
+                (drop (at + 4 * ones n) s)
+                (free-pairs ∙ (pairs-got x _ u ∙ ap (λ l. got l (drop (at + 4 * ones n) s)) (sym (w .list))));
+            counted = λ _. record {
+              pages-sum = filled-sum s k files at sum i f e;
+              free-sum = z .equal ∙ sym (ap blockCount (w .list));
+              sound-files = got-sound s b k h (filesTo k files) (drop at s) all-files;
+              free-count = ap length (w .list) ∙ (z .exact ∙ (z .count u ∙ ap ones free-blocks));
+            };
+            exact = exact-table;
+            inside = z .inside u;
+          }

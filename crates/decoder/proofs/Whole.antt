@@ -11,11 +11,12 @@ use Rattle.catalogue.proofs.Tests.{and-intro}
 use Rattle.catalogue.specs.Reading.{Header, Read, bad, every, got, judged, readCatalogue, readField, readHeader}
 use Rattle.catalogue.specs.Reading.{readLayout, readPairs, soundFile, then, unsound}
 use Rattle.catalogue.specs.Version.{version1}
-use Rattle.decoder.proofs.Early.{acceptable-sound, all-read, restOf, stopped}
+use Rattle.decoder.proofs.Early.{acceptable-sound, all-read, many-free, restOf, stopped}
 use Rattle.decoder.proofs.EntryRuns.{EntriesLeft}
 use Rattle.decoder.specs.Entries.{allAccepted}
 use Rattle.decoder.specs.Fields.{FieldAt}
 use Rattle.decoder.specs.Loading.{HeaderAt}
+use Rattle.free_pieces.specs.Free.{piecePlaces}
 use Rattle.layout.specs.Layout.{File, Layout, fileBlocks}
 use Rattle.layout.specs.Lists.{sumOf}
 use Rattle.section.proofs.Booleans.{false-and}
@@ -71,6 +72,10 @@ module _ (s : List ℕ) (b k : ℕ) (h : HeaderAt s b k) where
 
     pub got-sound : every soundFile fs ≡ true
     got-sound = acceptable-sound fs (all-read (EntriesLeft k (drop 6 s)) fs r e .1)
+
+    pub many-free-pairs : piecePlaces < ones (b - sumOf fileBlocks fs) → readCatalogue version1 s ≡ unsound
+    unfolding readCatalogue
+    many-free-pairs h = ap (judged version1) files-got ∙ many-free b fs r h
 
     pub bad-free : readPairs (ones (b - sumOf fileBlocks fs)) (version1 .heights) 2 r ≡ bad
         → readCatalogue version1 s ≡ unsound

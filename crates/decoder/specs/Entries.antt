@@ -30,7 +30,7 @@ allAccepted bad = bad
 
 -- the pairs of a list make a file of id i and n blocks
 unfoldable pub isFile : ℕ → ℕ → List Section → Bool
-isFile i n l = leb (length l) piecePlaces && (leb 1 i && (leb 1 n && (eqb (blockCount l) n && inOrder l)))
+isFile i n l = leb 1 i && (leb 1 n && (eqb (blockCount l) n && inOrder l))
 
 unfoldable pub entryIn : EntryRead → List ℕ → Read File
 entryIn e r = elim (e .ok) as (λ _. Read File) [ true ↦ got (fileOf (e .entry)) r | false ↦ bad ]

@@ -8,7 +8,7 @@ use Rattle.section.specs.declared.Section.{Section}
 use Rattle.section.specs.Limits.{greatestDisk}
 use Rattle.section.specs.Sections.{lengthOf}
 use Rattle.layout.specs.Layout.{blockCount}
-use Rattle.free_pieces.specs.Free.{freeOf}
+use Rattle.free_pieces.specs.Free.{listOf, piecePlaces}
 use Rattle.catalogue.specs.Version.{version1}
 use Rattle.catalogue.specs.Reading.{Read, got, bad, then, readField, readPair, readPairs}
 use Rattle.decoder.specs.declared.PairRead.{PairRead}
@@ -17,10 +17,6 @@ use Rattle.decoder.specs.declared.PairsRead.{PairsRead}
 -- the bytes of a field
 abbrev pub fieldBytes : ℕ
 fieldBytes = version1 .width
-
--- the most ones of a number in a field
-abbrev pub mostOnes : ℕ
-mostOnes = 16
 
 -- one above the greatest number of a field
 abbrev pub fieldValues : ℕ
@@ -43,7 +39,7 @@ pub record PairAt (s : List ℕ) (at : ℕ) (p : PairRead) : Type 0 where
   pub inside : p .ok ≡ true → at + 4 ≤ length s
 
 unfoldable pub pairsIn : PairsRead → List ℕ → Read (List Section)
-pairsIn p r = elim (p .ok) as (λ _. Read (List Section)) [ true ↦ got (freeOf (p .list)) r | false ↦ bad ]
+pairsIn p r = elim (p .ok) as (λ _. Read (List Section)) [ true ↦ got (listOf (p .list)) r | false ↦ bad ]
 
 -- what is read after the elements of acc
 abbrev pub readAfter : {A : Type 0} → List A → Read (List A) → Read (List A)
@@ -52,9 +48,9 @@ readAfter acc x = then x λ l r. got (acc ++ l) r
 -- p has the n pairs from a place on
 pub record PairsAt (s : List ℕ) (at n : ℕ) (p : PairsRead) : Type 0 where
   pub meaning : readPairs n (version1 .heights) fieldBytes (drop at s) ≡ pairsIn p (drop (at + 4 * n) s)
-  pub equal : p .sum ≡ blockCount (freeOf (p .list))
-  pub most : p .sum ≤ greatestDisk * mostOnes
+  pub equal : p .sum ≡ blockCount (listOf (p .list))
+  pub most : p .sum ≤ greatestDisk * piecePlaces
   pub count : p .ok ≡ true → p .list .count ≡ n
-  pub places : p .list .count ≤ mostOnes
-  pub exact : length (freeOf (p .list)) ≡ p .list .count
+  pub places : p .list .count ≤ piecePlaces
+  pub exact : length (listOf (p .list)) ≡ p .list .count
   pub inside : p .ok ≡ true → at + 4 * n ≤ length s

@@ -4,22 +4,19 @@ use crate::fields::read_field;
 use crate::fields::read_pairs;
 use crate::pieces::no_entry;
 use crate::pieces::sorted;
-use free_pieces::Free;
+use free_pieces::Pieces;
 use soundness::in_order;
 ghost use mathlib.Core.Path.{_≡_};
 ghost use Prim.Native.Nat.{_≤_};
 ghost use Rattle.layout.specs.Layout.{blockCount};
-ghost use Rattle.free_pieces.specs.Free.{freeOf, freePlaces};
+ghost use Rattle.free_pieces.specs.Free.{listOf, piecePlaces};
 ghost use Rattle.decoder.specs.Entries.{EntryAt, NoFile, isFile};
 
 // Whether the pairs of a list, which sum to `sum`, make a file of an id and n blocks.
-fn is_file(id: u32, n: u32, sum: u32, list: Free) -> bool
-    requires { ⌜ (list .count ≤ freePlaces) × (sum ≡ blockCount (freeOf list)) ⌝ }
-    ensures { λ r. ⌜ r ≡ isFile id n (freeOf list) ⌝ }
+fn is_file(id: u32, n: u32, sum: u32, list: Pieces) -> bool
+    requires { ⌜ (list .count ≤ piecePlaces) × (sum ≡ blockCount (listOf list)) ⌝ }
+    ensures { λ r. ⌜ r ≡ isFile id n (listOf list) ⌝ }
 {
-    if 13 < list.count {
-        return false;
-    }
     if id == 0 {
         return false;
     }
@@ -45,7 +42,8 @@ fn no_file() -> EntryRead
     }
 }
 
-// The entry at the front of a part of the catalogue.
+// The entry at the front of a part of the catalogue. A file of more pieces than an entry has places is in no sound
+// layout.
 pub fn read_entry(s: &[u8]) -> EntryRead
     ensures { λ r. ⌜ EntryAt (now (s .entry)) r ⌝ }
 {
@@ -55,6 +53,9 @@ pub fn read_entry(s: &[u8]) -> EntryRead
     let id = read_field(s, 0);
     let n = read_field(s, 2);
     let count = u32::count_ones(n) as usize;
+    if 13 < count {
+        return no_file();
+    }
     let pairs = read_pairs(s, 4, count);
     if !pairs.ok {
         return no_file();

@@ -1,7 +1,7 @@
 // Fields of two bytes and pairs of fields, read at a place of the catalogue.
 use crate::PairRead;
 use crate::PairsRead;
-use free_pieces::Free;
+use free_pieces::Pieces;
 use section::Height;
 use section::Measured;
 use section::Section;
@@ -9,7 +9,8 @@ ghost use mathlib.Core.Path.{_≡_};
 ghost use mathlib.Core.Bool.{true, false};
 ghost use Prim.Native.Nat.{_+_, _<_, _≤_};
 ghost use lib.ListN.{length};
-ghost use Rattle.decoder.specs.Fields.{FieldAt, PairAt, PairsAt, mostOnes};
+ghost use Rattle.free_pieces.specs.Free.{piecePlaces};
+ghost use Rattle.decoder.specs.Fields.{FieldAt, PairAt, PairsAt};
 
 fn wide(x: u8) -> u32
     ensures { λ r. ⌜ (r ≡ x) × (r < 256) ⌝ }
@@ -75,20 +76,20 @@ fn no_pairs() -> PairsRead
     PairsRead {
         ok: false,
         sum: 0,
-        list: Free {
+        list: Pieces {
             count: 0,
-            items: [section; 26],
+            items: [section; 13],
         },
     }
 }
 
 // The pairs from a place on, `count` of them.
 pub fn read_pairs(s: &[u8], at: usize, count: usize) -> PairsRead
-    requires { ⌜ (at ≤ length (now s)) × (count ≤ mostOnes) ⌝ }
+    requires { ⌜ (at ≤ length (now s)) × (count ≤ piecePlaces) ⌝ }
     ensures { λ r. ⌜ PairsAt (now (s .entry)) at count r ⌝ }
 {
     let section = no_section();
-    let mut items = [section; 26];
+    let mut items = [section; 13];
     let mut sum: u32 = 0;
     let mut i: usize = 0;
     while i < count {
@@ -104,6 +105,6 @@ pub fn read_pairs(s: &[u8], at: usize, count: usize) -> PairsRead
     PairsRead {
         ok: true,
         sum,
-        list: Free { count, items },
+        list: Pieces { count, items },
     }
 }

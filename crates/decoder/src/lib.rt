@@ -1,5 +1,5 @@
 // The bytes of a catalogue: a table is read from them, and refused unless it is sound.
-use free_pieces::Free;
+use free_pieces::Pieces;
 use section::Section;
 use soundness::is_sound;
 use table::Entry;
@@ -30,7 +30,7 @@ pub struct PairRead {
 pub struct PairsRead {
     pub ok: bool,
     pub sum: u32,
-    pub list: Free,
+    pub list: Pieces,
 }
 
 // A file's entry, if it is one that a sound layout can have: its blocks n, its bytes, and the file.

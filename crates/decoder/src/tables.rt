@@ -55,8 +55,8 @@ fn left_free(blocks: u32, sum: u32) -> u32
     blocks - sum
 }
 
-// The table after the header: the entries, each read from its own part of the catalogue, and the free pairs. One
-// function fills the array and makes the table, since an array that is passed on is copied.
+// The table after the header: the entries, each read from its own part of the catalogue, and the free pairs, which are
+// few in a sound layout. One function fills the array and makes the table, since an array that is passed on is copied.
 fn read_body(cat: &[u8], blocks: u32, count: usize) -> TableRead
     requires { ⌜ (length (now cat) ≡ catalogueSize) × HeaderAt (now cat) blocks count ⌝ }
     ensures { λ r. ⌜ TableAt (now (cat .entry)) r ⌝ }
@@ -78,11 +78,15 @@ fn read_body(cat: &[u8], blocks: u32, count: usize) -> TableRead
         i += 1;
     }
     let ones = u32::count_ones(left_free(blocks, sum)) as usize;
+    if 13 < ones {
+        return unread();
+    }
     let pairs = read_pairs(cat, at, ones);
     if !pairs.ok {
         return unread();
     }
     let list = pairs.list;
+    let free = list.free();
     TableRead {
         ok: true,
         sum,
@@ -92,7 +96,7 @@ fn read_body(cat: &[u8], blocks: u32, count: usize) -> TableRead
             blocks,
             count,
             files,
-            free: list,
+            free,
         },
     }
 }

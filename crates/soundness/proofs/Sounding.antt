@@ -104,6 +104,13 @@ module _ (t : Table) (sum free : ℕ) (x : Exact t) (y : Counted t sum free) whe
   pub sums-unsound : sumsAgree (t .blocks) sum free ≡ false → isSound 13 (layoutOf t) ≡ false
   sums-unsound e = is-false _ (λ u. false-true (sym e ∙ passed u .0))
 
+  -- once the sums agree, the free pieces are few
+  pub sums-free-few : sumsAgree (t .blocks) sum free ≡ true → t .free .count ≤ piecePlaces
+  unfolding layoutOf sumsAgree
+  sums-free-few e =
+      let a = and-true (leb (t .blocks) greatestDisk) _ (and-true (leb 1 (t .blocks)) _ e .1) .0 in
+      omega (arith, x .free, free-few (layoutOf t) (leb-true (t .blocks) greatestDisk a) (y .free-count))
+
   pub ids-unsound : idsRise (filesOf t) ≡ false → isSound 13 (layoutOf t) ≡ false
   ids-unsound e = is-false _ (λ u. false-true (sym e ∙ passed u .1))
 

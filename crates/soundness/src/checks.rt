@@ -105,7 +105,8 @@ fn any_shared(list: Gathered, masks: [u32; 858]) -> bool
     found
 }
 
-// Whether the table that was read is sound: its files and the number of its free pieces were tested in reading.
+// Whether the table that was read is sound: its files and the number of its free pieces were tested in reading. Once
+// the sums agree, the free pieces are few.
 pub fn is_sound(table: Table, sum: u32, free: u32) -> bool
     requires { ⌜ Exact table × Counted table sum free ⌝ }
     ensures { λ r. ⌜ r ≡ isSound (version1 .heights) (layoutOf table) ⌝ }
@@ -116,7 +117,8 @@ pub fn is_sound(table: Table, sum: u32, free: u32) -> bool
     if !ids_rise(table) {
         return false;
     }
-    let list = table.free;
+    let unused = table.free;
+    let list = unused.few();
     if !in_order(list) {
         return false;
     }

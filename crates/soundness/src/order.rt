@@ -1,9 +1,9 @@
 // The order of pieces in the bytes.
-use free_pieces::Free;
+use free_pieces::Pieces;
 use section::Section;
 ghost use mathlib.Core.Path.{_≡_};
 ghost use Prim.Native.Nat.{_≤_};
-ghost use Rattle.free_pieces.specs.Free.{freeOf, freePlaces};
+ghost use Rattle.free_pieces.specs.Free.{listOf, piecePlaces};
 ghost use Rattle.soundness.specs.Order.{inOrder, inTurn};
 
 // Whether `b` may stand after `a`: it starts later and has another length.
@@ -19,9 +19,9 @@ fn follows(a: Section, b: Section) -> bool
 }
 
 // Whether first blocks rise and lengths are distinct.
-pub fn in_order(list: Free) -> bool
-    requires { ⌜ list .count ≤ freePlaces ⌝ }
-    ensures { λ r. ⌜ r ≡ inOrder (freeOf list) ⌝ }
+pub fn in_order(list: Pieces) -> bool
+    requires { ⌜ list .count ≤ piecePlaces ⌝ }
+    ensures { λ r. ⌜ r ≡ inOrder (listOf list) ⌝ }
 {
     let count = list.count;
     let items = list.items;

@@ -4,7 +4,7 @@ use native.Mathlib.Omega.{arith}
 use borrow.Author.Needs.{needs}
 use borrow.Author.Tests.{not-true, not-false}
 use lib.Count.{ones-le}
-use Rattle.decoder.proofs.Entering.{few-pieces, refused-entry, short-entry, some-entry, unread-entry}
+use Rattle.decoder.proofs.Entering.{many-pieces, refused-entry, short-entry, some-entry, unread-entry}
 use Rattle.decoder.proofs.entries.read_entry.Statement.{statement}
 use Rattle.decoder.proofs.entries.read_entry.Tie as tie
 
@@ -23,67 +23,58 @@ read-field-requires-2 c κs = search needs
 cast-count : tie.Need-cast-count
 cast-count c = omega (arith, ones-le 16 (c .read-field2 .result) (c .read-field2 .ensures .most))
 
-read-pairs-requires : tie.Need-read-pairs-requires
-read-pairs-requires c κs = (omega arith, ones-le 16 (c .read-field2 .result) (c .read-field2 .ensures .most))
-
 no-file-requires-2 : tie.Need-no-file-requires-2
 no-file-requires-2 c κs = search needs
 
 returns-2 : tie.Need-returns-2
 returns-2 c =
-    unread-entry (c .before .before .before .before .before .before .before .before .args .s .now) _ _
-    (c .before .before .before .before .before .read-field .ensures)
-    (c .before .before .before .before .read-field2 .ensures) _ (c .before .before .before .read-pairs .ensures) _
-    (not-true _ (c .before .if2 .taken)) (c .no-file2 .ensures)
+    let b = c .before .before in
+    many-pieces (b .before .before .before .before .args .s .now) _ _ (b .before .read-field .ensures)
+    (b .read-field2 .ensures) (c .before .if2 .taken) _ (c .no-file2 .ensures)
 
-is-file-requires : tie.Need-is-file-requires
-is-file-requires c κs = search needs
+read-pairs-requires : tie.Need-read-pairs-requires
+read-pairs-requires c κs = search needs
 
 no-file-requires-3 : tie.Need-no-file-requires-3
 no-file-requires-3 c κs = search needs
 
 returns-3 : tie.Need-returns-3
 returns-3 c =
-    refused-entry
-    (c .before .before .before .before .before .before .before .before .before .before .before .args .s .now) _ _
-    (c .before .before .before .before .before .before .before .before .read-field .ensures)
-    (c .before .before .before .before .before .before .before .read-field2 .ensures) _
-    (c .before .before .before .before .before .before .read-pairs .ensures)
-    (not-false _ (c .before .before .before .before .if2 .left)) _
-    (sym (c .before .before .is-file .ensures) ∙ not-true _ (c .before .if3 .taken)) (c .no-file3 .ensures)
+    let b = c .before .before .before .before .before in
+    unread-entry (b .before .before .before .before .args .s .now) _ _ (b .before .read-field .ensures)
+    (b .read-field2 .ensures) _ (c .before .before .before .read-pairs .ensures) _ (not-true _ (c .before .if3 .taken))
+    (c .no-file3 .ensures)
 
-sorted-requires : tie.Need-sorted-requires
-sorted-requires c κs =
-    few-pieces (c .before .before .before .before .before .before .before .before .before .before .args .s .now) _ _
-    (c .before .before .before .before .before .before .before .read-field .ensures)
-    (c .before .before .before .before .before .before .read-field2 .ensures) _
-    (c .before .before .before .before .before .read-pairs .ensures)
-    (not-false _ (c .before .before .before .if2 .left))
-    (sym (c .before .is-file .ensures) ∙ not-false _ (c .if3 .left))
+is-file-requires : tie.Need-is-file-requires
+is-file-requires c κs = search needs
 
-mul-t8 : tie.Need-mul-t8
-mul-t8 c = omega (
-  arith,
-  ones-le 16 (c .before .before .before .before .before .before .before .read-field2 .result)
-      (c .before .before .before .before .before .before .before .read-field2 .ensures .most),
-)
-
-add-t12 : tie.Need-add-t12
-add-t12 c = omega (
-  arith,
-  ones-le 16 (c .before .before .before .before .before .before .before .read-field2 .result)
-      (c .before .before .before .before .before .before .before .read-field2 .ensures .most),
-)
+no-file-requires-4 : tie.Need-no-file-requires-4
+no-file-requires-4 c κs = search needs
 
 returns-4 : tie.Need-returns-4
 returns-4 c =
-    some-entry
-    (c .before .before .before .before .before .before .before .before .before .before .before .args .s .now) _ _
-    (c .before .before .before .before .before .before .before .before .read-field .ensures)
-    (c .before .before .before .before .before .before .before .read-field2 .ensures) _
-    (c .before .before .before .before .before .before .read-pairs .ensures)
-    (not-false _ (c .before .before .before .before .if2 .left)) _
-    (sym (c .before .before .is-file .ensures) ∙ not-false _ (c .before .if3 .left)) (c .sorted .ensures)
+    let b = c .before .before .before .before .before .before .before .before in
+    refused-entry (b .before .before .before .before .args .s .now) _ _ (b .before .read-field .ensures)
+    (b .read-field2 .ensures) _ (c .before .before .before .before .before .before .read-pairs .ensures)
+    (not-false _ (c .before .before .before .before .if3 .left)) _
+    (sym (c .before .before .is-file .ensures) ∙ not-true _ (c .before .if4 .taken)) (c .no-file4 .ensures)
+
+sorted-requires : tie.Need-sorted-requires
+sorted-requires c κs = search needs
+
+mul-t8 : tie.Need-mul-t8
+mul-t8 c = search needs
+
+add-t12 : tie.Need-add-t12
+add-t12 c = search needs
+
+returns-5 : tie.Need-returns-5
+returns-5 c =
+    let b = c .before .before .before .before .before .before .before .before in
+    some-entry (b .before .before .before .before .args .s .now) _ _ (b .before .read-field .ensures)
+    (b .read-field2 .ensures) _ (c .before .before .before .before .before .before .read-pairs .ensures)
+    (not-false _ (c .before .before .before .before .if3 .left)) _
+    (sym (c .before .before .is-file .ensures) ∙ not-false _ (c .before .if4 .left)) (c .sorted .ensures)
 
 pub read-entry-spec : {M : Type 1} → statement M
 read-entry-spec =
@@ -94,13 +85,15 @@ read-entry-spec =
     read-field-requires
     read-field-requires-2
     cast-count
-    read-pairs-requires
     no-file-requires-2
     returns-2
-    is-file-requires
+    read-pairs-requires
     no-file-requires-3
     returns-3
+    is-file-requires
+    no-file-requires-4
+    returns-4
     sorted-requires
     mul-t8
     add-t12
-    returns-4)
+    returns-5)

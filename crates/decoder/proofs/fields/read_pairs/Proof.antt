@@ -10,7 +10,7 @@ use borrow.Author.Tests.{not-true, not-false}
 use Rattle.section.specs.Limits.{greatestDisk}
 use Rattle.section.specs.Sections.{lengthOf}
 use Rattle.layout.specs.Layout.{blockCount}
-use Rattle.decoder.specs.Fields.{mostOnes}
+use Rattle.free_pieces.specs.Free.{piecePlaces}
 use Rattle.decoder.proofs.Runs.{PairsLeft, Left, left-start, left-more, left-bad, left-end, no-pairs-at}
 use Rattle.decoder.proofs.Runs.{some-pairs-at, sum-pushed}
 use Rattle.decoder.proofs.fields.read_pairs.Statement.{statement}
@@ -18,8 +18,9 @@ use Rattle.decoder.proofs.fields.read_pairs.Tie as tie
 
 abbrev Inv-loop : tie.InvT-loop
 Inv-loop s at count items₀ sum₀ i₀ items sum i =
-    (i ≤ count) × (count ≤ mostOnes) × (at + 4 * i ≤ length s) × (length items ≡ 26) × (sum ≤ greatestDisk * i)
-    × (sum ≡ blockCount (take i items)) × (Left s at count i items ≡ PairsLeft count (drop at s))
+    (i ≤ count) × (count ≤ piecePlaces) × (at + 4 * i ≤ length s) × (length items ≡ piecePlaces)
+    × (sum ≤ greatestDisk * i) × (sum ≡ blockCount (take i items))
+    × (Left s at count i items ≡ PairsLeft count (drop at s))
 
 abbrev μ-loop : tie.MeasureT-loop
 μ-loop s at count items₀ sum₀ i₀ items sum i = count - i

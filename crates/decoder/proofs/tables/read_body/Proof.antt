@@ -11,7 +11,7 @@ use Rattle.section.specs.Limits.{catalogueSize}
 use Rattle.free_pieces.proofs.EachItem.{each-replicate}
 use Rattle.decoder.specs.Loading.{HeaderAt}
 use Rattle.decoder.proofs.Filled.{FilesAt, filled-bad, filled-inside, filled-more, filled-start}
-use Rattle.decoder.proofs.Tabled.{table-at, unread-at, unread-free}
+use Rattle.decoder.proofs.Tabled.{table-at, unread-at, unread-free, unread-many}
 use Rattle.decoder.proofs.Whole.{bad-files}
 use Rattle.decoder.proofs.tables.read_body.Statement.{statement}
 use Rattle.decoder.proofs.tables.read_body.Tie as tie
@@ -107,57 +107,56 @@ cast-ones c = omega (
   )),
 )
 
-read-pairs-requires : tie.Need-read-pairs-requires Inv-loop μ-loop
-read-pairs-requires c κs = (
-  c .before .before .loop .inv .2 .inside,
-  ones-le 16 (c .left-free .result) (omega (
-    arith,
-    c .before .before .loop .inv .1 .most,
-    c .left-free .ensures .1,
-  )),
-)
-
 unread-requires-2 : tie.Need-unread-requires-2 Inv-loop μ-loop
 unread-requires-2 c κs = search needs
 
 returns-2 : tie.Need-returns-2 Inv-loop μ-loop
 returns-2 c =
-    let b = c .before .before .before .before .before .before in
+    let a = c .before .before in
+    let b = a .before .before in
     let v = b .loop .inv in
-    let e : b .loop .i ≡ b .before .before .before .args .count = omega (arith, c .before .before .before .before .before .loop-test .left) in
-    unread-at _ _
-    (unread-free _ _ _ (v .1) _ _ _ _ (v .2) e _ (c .before .before .before .before .left-free .ensures .0) _
-    (c .before .before .before .read-pairs .ensures) (not-true _ (c .before .if2 .taken)))
+    let t = a .before .loop-test .left in
+    let e : b .loop .i ≡ b .before .before .before .args .count = omega (arith, t) in
+    unread-at _ _ (unread-many _ _ _ (v .1) _ _ _ _ (v .2) e _ (a .left-free .ensures .0) (c .before .if2 .taken))
     (c .unread2 .ensures)
 
-mul-t24 : tie.Need-mul-t24 Inv-loop μ-loop
-mul-t24 c = omega (
-  arith,
-  ones-le 16 (c .before .before .before .before .left-free .result) (omega (
-    arith,
-    c .before .before .before .before .before .before .loop .inv .1 .most,
-    c .before .before .before .before .left-free .ensures .1,
-  )),
-)
+read-pairs-requires : tie.Need-read-pairs-requires Inv-loop μ-loop
+read-pairs-requires c κs = (c .before .before .before .loop .inv .2 .inside, c .if2 .left)
 
-add-t25 : tie.Need-add-t25 Inv-loop μ-loop
-add-t25 c = omega (
-  arith,
-  c .before .before .before .before .before .before .loop .inv .2 .inside,
-  ones-le 16 (c .before .before .before .before .left-free .result) (omega (
-    arith,
-    c .before .before .before .before .before .before .loop .inv .1 .most,
-    c .before .before .before .before .left-free .ensures .1,
-  )),
-)
+unread-requires-3 : tie.Need-unread-requires-3 Inv-loop μ-loop
+unread-requires-3 c κs = search needs
 
 returns-3 : tie.Need-returns-3 Inv-loop μ-loop
 returns-3 c =
-    let b = c .before .before .before .before .before .before in
+    let a = c .before .before .before .before .before in
+    let b = a .before .before in
     let v = b .loop .inv in
-    let e : b .loop .i ≡ b .before .before .before .args .count = omega (arith, c .before .before .before .before .before .loop-test .left) in
-    table-at _ _ _ (v .1) _ _ _ _ (v .2) e _ (c .before .before .before .before .left-free .ensures .0) _ (c .before .before .before .read-pairs .ensures)
-    (not-false _ (c .before .if2 .left))
+    let t = a .before .loop-test .left in
+    let e : b .loop .i ≡ b .before .before .before .args .count = omega (arith, t) in
+    unread-at _ _
+    (unread-free _ _ _ (v .1) _ _ _ _ (v .2) e _ (a .left-free .ensures .0) _
+    (c .before .before .before .read-pairs .ensures) (not-true _ (c .before .if3 .taken)))
+    (c .unread3 .ensures)
+
+free-requires : tie.Need-free-requires Inv-loop μ-loop
+free-requires c κs = search needs
+
+mul-t25 : tie.Need-mul-t25 Inv-loop μ-loop
+mul-t25 c = search needs
+
+add-t26 : tie.Need-add-t26 Inv-loop μ-loop
+add-t26 c = omega (arith, c .before .before .before .before .before .before .before .before .loop .inv .2 .inside)
+
+returns-4 : tie.Need-returns-4 Inv-loop μ-loop
+returns-4 c =
+    let a = c .before .before .before .before .before .before in
+    let b = a .before .before in
+    let v = b .loop .inv in
+    let t = a .before .loop-test .left in
+    let e : b .loop .i ≡ b .before .before .before .args .count = omega (arith, t) in
+    table-at _ _ _ (v .1) _ _ _ _ (v .2) e _ (a .left-free .ensures .0) _
+    (c .before .before .before .before .read-pairs .ensures) _ (c .free .ensures)
+    (not-false _ (c .before .before .if3 .left))
 
 pub read-body-spec : {M : Type 1} → statement M
 read-body-spec =
@@ -182,9 +181,12 @@ read-body-spec =
     loop-again
     left-free-requires
     cast-ones
-    read-pairs-requires
     unread-requires-2
     returns-2
-    mul-t24
-    add-t25
-    returns-3)
+    read-pairs-requires
+    unread-requires-3
+    returns-3
+    free-requires
+    mul-t25
+    add-t26
+    returns-4)

@@ -1,7 +1,7 @@
 -- A file that is not acceptable is in no sound layout, nor are more free pieces than a list of few has places, so
 -- reading may stop there. Assumes nothing.
 use mathlib.Core.Bool.{Bool, _&&_, false, not, true}
-use mathlib.Core.List.{List, [], _∷_}
+use mathlib.Core.List.{List}
 use mathlib.Core.Path.{_∙_, _≡_, ap, refl, sym}
 use Prim.Native.Nat.{_-_, _<_, _^_, _≤_, ℕ}
 use native.Mathlib.Omega.{arith}
@@ -14,13 +14,14 @@ use Rattle.catalogue.specs.Reading.{Read, Reading, bad, every, got, isSound, ju
 use Rattle.catalogue.specs.Reading.{soundFile, soundFree, soundPiece, then, unsound}
 use Rattle.catalogue.specs.Version.{version1}
 use Rattle.soundness.proofs.Points.{false-true, is-false}
-use Rattle.soundness.proofs.Sounding.{free-few}
+use Rattle.layout.proofs.SoundSums.{each-files}
+use Rattle.layout.proofs.Soundness.{free-few}
 use Rattle.decoder.proofs.Runs.{pairs-count}
 use Rattle.free_pieces.specs.Free.{piecePlaces}
 use Rattle.decoder.specs.Entries.{acceptable, allAccepted}
-use Rattle.layout.proofs.Lists.{each-and, each-imp, each-left, each-right}
+use Rattle.layout.proofs.Lists.{each-and, each-imp, each-left}
 use Rattle.layout.specs.Layout.{File, Layout, allPieces, fileBlocks, filePieces}
-use Rattle.layout.specs.Lists.{Each, Pairwise, done, more, next, none, sumOf}
+use Rattle.layout.specs.Lists.{Each, Pairwise, more, next, none, sumOf}
 use Rattle.section.proofs.Booleans.{and-true, false-and}
 use Rattle.section.proofs.Lengths.{pow-lt-inv}
 use Rattle.section.specs.Limits.{mostFiles}
@@ -38,13 +39,6 @@ falling-few k (next {a = s} {l = l} p q) (more h e) =
       falling-few (s .height .value) q
           (each-imp (λ t. pow-lt-inv (t .height .value) (s .height .value)) p),
     )
-
-each-files {κ} : {P : Section → Type κ} (fs : List File) → Each P (filePieces fs)
-    → Each (λ (f : File). Each P (f .pieces)) fs
-unfolding filePieces
-each-files [] e = done
-each-files (f ∷ fs) e =
-    more (each-left (f .pieces) (filePieces fs) e) (each-files fs (each-right (f .pieces) (filePieces fs) e))
 
 files-sound : (k : ℕ) (l : Layout) → isSound k l ≡ true → every soundFile (l .files) ≡ true
 unfolding isSound
@@ -78,7 +72,7 @@ acceptable-sound fs e =
 
 -- a sound layout has at most 13 free pieces
 pub sound-free-few : (l : Layout) → isSound 13 l ≡ true → length (l .free) ≤ piecePlaces
-sound-free-few l e = let s = test-sound 13 l e in free-few l (s .most-blocks) (s .free-count)
+sound-free-few l e = let s = test-sound 13 l e in free-few 13 l (omega arith) (s .most-blocks) (s .free-count)
 
 -- ---- what is judged
 

@@ -1,7 +1,6 @@
 -- The laws of the loader, by subject.
 pub mod Places
 pub mod Runs
-pub mod PageOrder
 pub mod Files
 pub mod Entering
 pub mod EntryRuns

@@ -8,7 +8,7 @@ use lib.ListN.{length}
 use Rattle.layout.proofs.Allocating.{Falling}
 use Rattle.layout.proofs.Cover.{Covers, covers-size}
 use Rattle.layout.proofs.FilesMoved.{Shape, shape}
-use Rattle.layout.proofs.Lists.{sum-append}
+use Rattle.layout.proofs.Lists.{each-left, each-right, sum-append}
 use Rattle.layout.proofs.Splitting.{AtMostOne}
 use Rattle.layout.proofs.Taking.{Rising}
 use Rattle.layout.specs.Layout.{File, Layout, OnDisk, allPieces, fileBlocks, filePieces, freeBlocks}
@@ -47,6 +47,14 @@ pub record SumsOver (T : List Section → Type 0) (K : ℕ) (l : Layout) : Type 
 -- sound: no free length repeats
 abbrev pub SoundSums : ℕ → Layout → Type 0
 SoundSums K l = SumsOver AtMostOne K l
+
+-- what holds of all pieces of files holds of the pieces of each
+pub each-files {κ} : {P : Section → Type κ} (fs : List File) → Each P (filePieces fs)
+    → Each (λ (f : File). Each P (f .pieces)) fs
+unfolding filePieces
+each-files [] e = done
+each-files (f ∷ fs) e =
+    more (each-left (f .pieces) (filePieces fs) e) (each-files fs (each-right (f .pieces) (filePieces fs) e))
 
 -- f is the sum of the free lengths
 pub pieces-size : (fs : List File) → sumOf lengthOf (filePieces fs) ≡ sumOf fileBlocks fs

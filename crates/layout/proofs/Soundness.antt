@@ -1,7 +1,7 @@
 -- The two forms of soundness say the same: the rules of document 01, and their form by sums. Assumes nothing.
 use mathlib.Core.List.{List, [], _∷_, map}
 use mathlib.Core.Path.{_∙_, _≡_, ap, sym}
-use Prim.Native.Nat.{_-_, _<_, _≤_, ℕ}
+use Prim.Native.Nat.{_-_, _<_, _^_, _≤_, ℕ}
 use native.Mathlib.Decide.{ℕ-discrete}
 use native.Mathlib.Nat.{le-of-lt}
 use native.Mathlib.Omega.{arith}
@@ -104,12 +104,9 @@ module _ (k : ℕ) (l : Layout) where
   }
 
   -- a sound layout has at most as many free pieces as heights
-  pub free-few : 1 ≤ k → Sound k l → length (l .free) ≤ k
-  free-few pos s = omega (
-    arith,
-    s .free-count,
-    ones-le k (freeBlocks l) (omega (arith, s .most-blocks, pow-lt {i = k - 1} {j = k} (omega arith))),
-  )
+  pub free-few : 1 ≤ k → l .blocks ≤ 2 ^ (k - 1) → length (l .free) ≡ ones (freeBlocks l) → length (l .free) ≤ k
+  free-few pos most count =
+      omega (arith, ones-le k (freeBlocks l) (omega (arith, pow-lt {i = k - 1} {j = k} (omega arith))))
 
   -- ---- from sums to the rules
 

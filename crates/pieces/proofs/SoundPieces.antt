@@ -1,5 +1,5 @@
 -- The pieces of a sound table: every height has a length, and the free ones are few. Assumes nothing.
-use mathlib.Core.List.{List, [], _++_, _∷_}
+use mathlib.Core.List.{_++_}
 use mathlib.Core.Path.{_≡_}
 use Prim.Native.Nat.{_<_, _≤_}
 use native.Mathlib.Omega.{arith}
@@ -7,9 +7,10 @@ use lib.ListN.{length, take}
 use lib.Seq.{length-take-le}
 use Rattle.section.specs.declared.Section.{Section}
 use Rattle.layout.proofs.Lists.{each-and, each-imp, each-left, each-right, each-unmap}
+use Rattle.layout.proofs.SoundSums.{each-files}
 use Rattle.layout.proofs.Soundness.{free-few}
-use Rattle.layout.specs.Layout.{File, filePieces}
-use Rattle.layout.specs.Lists.{Each, done, more}
+use Rattle.layout.specs.Layout.{filePieces}
+use Rattle.layout.specs.Lists.{Each}
 use Rattle.layout.specs.Sound.{Sound}
 use Rattle.free_pieces.proofs.EachItem.{each-take}
 use Rattle.free_pieces.specs.Free.{freeOf, freePlaces, piecePlaces}
@@ -17,13 +18,6 @@ use Rattle.table.specs.Tables.{Sized, fileOf, filesOf, layoutOf}
 use Rattle.table.specs.declared.Entry.{Entry}
 use Rattle.table.specs.declared.Table.{Table}
 use Rattle.pieces.specs.Pieces.{Low, LowFiles}
-
-each-file : {P : Section → Type 0} (fs : List File) → Each P (filePieces fs)
-    → Each (λ (f : File). Each P (f .pieces)) fs
-unfolding filePieces
-each-file [] e = done
-each-file (f ∷ fs) e =
-    more {a = f} (each-left (f .pieces) (filePieces fs) e) (each-file fs (each-right (f .pieces) (filePieces fs) e))
 
 module _ (t : Table) (sized : Sized t) (sound : Sound 13 (layoutOf t)) where
   all-low : Each Low (filePieces (filesOf t) ++ freeOf (t .free))
@@ -37,7 +31,7 @@ module _ (t : Table) (sized : Sized t) (sound : Sound 13 (layoutOf t)) where
   unfolding freeOf layoutOf
   free-places e = omega (
     arith,
-    free-few 13 (layoutOf t) (omega arith) sound,
+    free-few 13 (layoutOf t) (omega arith) (sound .most-blocks) (sound .free-count),
     length-take-le (t .free .count) (t .free .items) (omega (arith, sized .free)),
   )
 
@@ -49,5 +43,5 @@ module _ (t : Table) (sized : Sized t) (sound : Sound 13 (layoutOf t)) where
         each-imp (λ (e : Entry) p. record { places = p .0; low = p .1 })
         (each-and (each-take (t .count) (sized .each))
         (each-unmap fileOf (take (t .count) (t .files))
-        (each-file (filesOf t) (each-left (filePieces (filesOf t)) (freeOf (t .free)) all-low))));
+        (each-files (filesOf t) (each-left (filePieces (filesOf t)) (freeOf (t .free)) all-low))));
   }

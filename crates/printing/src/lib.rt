@@ -1,9 +1,8 @@
 // The text of a catalogue and of a refusal, as document 01 has it in "Printing a catalogue".
 //
 // Every function writes behind what stands in the buffer already, and answers the place behind what it wrote.
-ghost use mathlib.Core.Path.{_≡_};
 ghost use Prim.Native.Nat.{_≤_};
-ghost use lib.ListN.{length, take};
+ghost use lib.ListN.{length};
 ghost use Rattle.layout.specs.Sound.{Sound};
 ghost use Rattle.manager.specs.Printing.{layoutText, refusalText};
 ghost use Rattle.table.specs.Tables.{Sized, layoutOf};

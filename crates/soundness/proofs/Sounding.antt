@@ -4,13 +4,14 @@ use mathlib.Core.List.{List}
 use mathlib.Core.Path.{_∙_, _≡_, ap₂, refl, sym}
 use Prim.Native.Nat.{_-_, _≤_, ℕ}
 use native.Mathlib.Omega.{arith}
-use lib.Count.{ones, ones-le}
+use lib.Count.{ones}
 use lib.Dec.{eqb, leb}
 use lib.ListN.{length}
 use borrow.Author.Tests.{eq-eqb, le-leb, leb-true}
 use Rattle.catalogue.proofs.Tests.{and-intro}
 use Rattle.catalogue.specs.Reading.{every, isSound, soundFile, soundFree, soundPiece}
 use Rattle.catalogue.specs.Version.{version1}
+use Rattle.layout.proofs.Soundness.{free-few}
 use Rattle.layout.specs.Layout.{Layout, allPieces, blockCount, fileBlocks, freeBlocks}
 use Rattle.layout.specs.Lists.{sumOf}
 use Rattle.section.proofs.Booleans.{and-true}
@@ -81,13 +82,6 @@ module _ (l : Layout) where
       (and-intro (a3 .1) (eq-eqb (length (l .free)) (ones (freeBlocks l)) count))))
       (and-intro (p .3) (p .4))))))))
 
--- ---- the free pieces
-
--- as many free pieces as the free blocks have ones are at most 13 on every disk
-pub free-few : (l : Layout) → l .blocks ≤ greatestDisk → length (l .free) ≡ ones (freeBlocks l)
-    → length (l .free) ≤ piecePlaces
-free-few l most count = omega (arith, ones-le 13 (freeBlocks l) (omega arith))
-
 -- ---- a table that was read
 
 module _ (t : Table) (sum free : ℕ) (x : Exact t) (y : Counted t sum free) where
@@ -109,7 +103,7 @@ module _ (t : Table) (sum free : ℕ) (x : Exact t) (y : Counted t sum free) whe
   unfolding layoutOf sumsAgree
   sums-free-few e =
       let a = and-true (leb (t .blocks) greatestDisk) _ (and-true (leb 1 (t .blocks)) _ e .1) .0 in
-      omega (arith, x .free, free-few (layoutOf t) (leb-true (t .blocks) greatestDisk a) (y .free-count))
+      omega (arith, x .free, free-few 13 (layoutOf t) (omega arith) (leb-true (t .blocks) greatestDisk a) (y .free-count))
 
   pub ids-unsound : idsRise (filesOf t) ≡ false → isSound 13 (layoutOf t) ≡ false
   ids-unsound e = is-false _ (λ u. false-true (sym e ∙ passed u .1))

@@ -22,7 +22,9 @@ module _ (t : Table) (g : SoundSums 13 (layoutOf t)) where
   -- a sound layout has at most a free piece for each height
   pub few-free : length (freeOf (t .free)) ≡ t .free .count → t .free .count ≤ piecePlaces
   unfolding layoutOf
-  few-free exact = omega (arith, exact, free-few 13 (layoutOf t) (omega arith) (sums-sound 13 (layoutOf t) g))
+  few-free exact =
+      let s = sums-sound 13 (layoutOf t) g in
+      omega (arith, free-few 13 (layoutOf t) (omega arith) (s .most-blocks) (s .free-count))
 
   pub table-released-whole : (i : ℕ) (r : Table) → t .count ≤ length (t .files) → i < t .count
       → i ≡ firstPlace (hasId (entryAt t i .id)) (filesOf t) → Released t i r → Whole (t .blocks) (layoutOf r)

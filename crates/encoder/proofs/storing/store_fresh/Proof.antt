@@ -24,10 +24,11 @@ unfolding freeOf
 few-requires c κs =
     let s = c .before .before .before .before .before .before in
     let f = s .args .free in
+    let y = s .pre .1 .1 in
     let e : length (f .items) ≡ freePlaces = search (needs, length-of-mapped) in
     omega (
       arith,
-      free-few 13 (noFiles (s .args .blocks) (freeOf f)) (omega arith) (s .pre .1 .1),
+      free-few 13 (noFiles (s .args .blocks) (freeOf f)) (omega arith) (y .most-blocks) (y .free-count),
       length-take-le (f .count) (f .items) (omega (arith, s .pre .1 .0)),
     )
 

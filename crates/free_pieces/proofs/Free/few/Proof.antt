@@ -1,5 +1,5 @@
 -- `Free::few` meets its contract: after `j` turns the first `j` places hold the first `j` pieces. Assumes nothing.
-use mathlib.Core.Path.{_∙_, _≡_, ap, refl}
+use mathlib.Core.Path.{_≡_, refl}
 use Prim.Native.Nat.{_-_, _≤_}
 use native.Mathlib.Omega.{arith}
 use lib.ListN.{length, length-set, take}

@@ -13,8 +13,8 @@ use Rattle.section.specs.Limits.{greatestDisk, greatestHeight}
 use Rattle.section.specs.Sections.{section}
 use Rattle.section.specs.declared.Section.{Section}
 use Rattle.free_pieces.proofs.LaidMore.{pushed}
-use Rattle.free_pieces.specs.Free.{freeOf}
-use Rattle.free_pieces.specs.declared.Free.{Free}
+use Rattle.free_pieces.specs.Free.{listOf}
+use Rattle.free_pieces.specs.declared.Pieces.{Pieces}
 
 -- ---- one height
 
@@ -32,18 +32,18 @@ module _ (c h : ℕ) where
   step x = refl
 
   -- no piece of this height
-  pub pieces-skip : (f : Free) → digit h c ≡ 0 → piecesWith c h f ≡ piecesWith c (suc h) f
+  pub pieces-skip : (f : Pieces) → digit h c ≡ 0 → piecesWith c h f ≡ piecesWith c (suc h) f
   unfolding piecesWith from
   pieces-skip f e =
       let eq : c % 2 ^ suc h ≡ c % 2 ^ h = mod-digit c h ∙ (ap (λ z. z * 2 ^ h + c % 2 ^ h) e ∙ omega arith) in
-      ap (λ z. freeOf f ++ z)
+      ap (λ z. listOf f ++ z)
       (sym (ap (λ z. piecesFrom (suc h) c (c - z)) eq ∙ (step (c - c % 2 ^ h) ∙ ap (from (c - c % 2 ^ h)) e)))
 
   -- one, which starts where the higher ones end
-  pub pieces-push : (f : Free) (x : ℕ) → digit h c ≡ 1 → x ≡ c - c % 2 ^ suc h → f .count < length (f .items)
+  pub pieces-push : (f : Pieces) (x : ℕ) → digit h c ≡ 1 → x ≡ c - c % 2 ^ suc h → f .count < length (f .items)
       → piecesWith c h (record { count = f .count + 1; items = set (f .items) (f .count) (section x h) })
       ≡ piecesWith c (suc h) f
-  unfolding piecesWith freeOf from
+  unfolding piecesWith listOf from
   pieces-push f x e g l =
       let eq : c % 2 ^ suc h ≡ 2 ^ h + c % 2 ^ h =
       mod-digit c h ∙ (ap (λ z. z * 2 ^ h + c % 2 ^ h) e ∙ omega arith) in
@@ -55,7 +55,7 @@ module _ (c h : ℕ) where
 
 -- ---- from the first height to the last
 
-pub pieces-start : (c : ℕ) (f : Free) → c ≤ greatestDisk → freeOf f ≡ []
+pub pieces-start : (c : ℕ) (f : Pieces) → c ≤ greatestDisk → listOf f ≡ []
     → piecesWith c (suc greatestHeight) f ≡ piecesFrom (suc greatestHeight) c 0
 unfolding piecesWith
 pieces-start c f p e =
@@ -63,7 +63,7 @@ pieces-start c f p e =
     let z : c - c % 2 ^ suc greatestHeight ≡ 0 = omega (arith, m) in
     ap₂ (λ a y. a ++ piecesFrom (suc greatestHeight) c y) e z
 
-pub pieces-end : (c h : ℕ) (f : Free) → h ≡ 0 → freeOf f ≡ piecesWith c h f
+pub pieces-end : (c h : ℕ) (f : Pieces) → h ≡ 0 → listOf f ≡ piecesWith c h f
 unfolding piecesWith piecesFrom
 pieces-end c h f e =
-    sym (append-nil (freeOf f)) ∙ ap (λ k. freeOf f ++ piecesFrom k c (c - c % 2 ^ h)) (sym e)
+    sym (append-nil (listOf f)) ∙ ap (λ k. listOf f ++ piecesFrom k c (c - c % 2 ^ h)) (sym e)

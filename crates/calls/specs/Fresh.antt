@@ -5,14 +5,14 @@ use Prim.Native.Nat.{ℕ, suc, _-_, _%_, _^_, _≤_}
 use Rattle.section.specs.declared.Section.{Section}
 use Rattle.section.specs.Limits.{greatestHeight}
 use Rattle.layout.specs.Layout.{piecesFrom}
-use Rattle.free_pieces.specs.declared.Free.{Free}
-use Rattle.free_pieces.specs.Free.{freeOf, piecePlaces}
+use Rattle.free_pieces.specs.declared.Pieces.{Pieces}
+use Rattle.free_pieces.specs.Free.{listOf, piecePlaces}
 
 -- the pieces so far, and those for the ones of c below height h, which start where the higher ones end
-unfoldable pub piecesWith : ℕ → ℕ → Free → List Section
-piecesWith c h f = freeOf f ++ piecesFrom h c (c - c % 2 ^ h)
+unfoldable pub piecesWith : ℕ → ℕ → Pieces → List Section
+piecesWith c h f = listOf f ++ piecesFrom h c (c - c % 2 ^ h)
 
 -- r has a piece for each 1 of c
-pub record FreeFor (c : ℕ) (r : Free) : Type 0 where
-  pub list : freeOf r ≡ piecesFrom (suc greatestHeight) c 0
+pub record FreeFor (c : ℕ) (r : Pieces) : Type 0 where
+  pub list : listOf r ≡ piecesFrom (suc greatestHeight) c 0
   pub most : r .count ≤ piecePlaces

@@ -2,16 +2,23 @@
 ghost use Prim.Native.Nat.{_≤_};
 ghost use Rattle.section.specs.Limits.{greatestDisk};
 ghost use Rattle.calls.specs.Fresh.{FreeFor};
-use free_pieces::Free;
+use free_pieces::Pieces;
 use section::Height;
 use section::Section;
 
 // A free piece for each 1 of `blocks`, from the highest down: each starts where the higher ones end.
-pub fn fresh_free(blocks: u32) -> Free
+pub fn fresh_free(blocks: u32) -> Pieces
     requires { ⌜ blocks ≤ greatestDisk ⌝ }
     ensures { λ r. ⌜ FreeFor blocks r ⌝ }
 {
-    let mut free = Free::none();
+    let none = Section {
+        first: 0,
+        height: Height { value: 0 },
+    };
+    let mut free = Pieces {
+        count: 0,
+        items: [none; 13],
+    };
     let mut h: u32 = Height::GREATEST + 1;
     while 0 < h {
         h -= 1;

@@ -1,6 +1,5 @@
 // A table stored as the bytes of a catalogue, front to back: each function writes its bytes from `at` on and answers
 // the position after them, and `clear` writes the zero bytes after the last.
-use free_pieces::Free;
 use free_pieces::Pieces;
 use section::Section;
 use table::Entry;
@@ -13,7 +12,7 @@ ghost use Rattle.section.specs.Heights.{NoHigher};
 ghost use Rattle.section.specs.Limits.{catalogueSize};
 ghost use Rattle.layout.specs.Lists.{Each};
 ghost use Rattle.layout.specs.Sound.{Sound};
-ghost use Rattle.free_pieces.specs.Free.{freeOf, freePlaces, listOf, piecePlaces};
+ghost use Rattle.free_pieces.specs.Free.{listOf, piecePlaces};
 ghost use Rattle.table.specs.Tables.{Sized, fileOf, layoutOf};
 ghost use Rattle.catalogue.specs.Encoding.{bigEndian, encode, entryBytes, pairBytes, pairsBytes};
 ghost use Rattle.catalogue.specs.Version.{version1};
@@ -116,14 +115,14 @@ pub fn store(cat: &mut [u8], t: Table)
 }
 
 // Writes the catalogue of a disk with no file: header, free pairs, and zero bytes to the end.
-pub fn store_fresh(cat: &mut [u8], blocks: u32, free: Free)
+pub fn store_fresh(cat: &mut [u8], blocks: u32, free: Pieces)
     requires { ⌜ length (now cat) ≡ catalogueSize ⌝ }
-    requires { ⌜ free .count ≤ freePlaces ⌝ }
-    requires { ⌜ Sound 13 (noFiles blocks (freeOf free)) ⌝ }
-    ensures { λ _. ⌜ now (cat .exit) ≡ encode version1 (noFiles blocks (freeOf free)) ⌝ }
+    requires { ⌜ free .count ≤ piecePlaces ⌝ }
+    requires { ⌜ Sound 13 (noFiles blocks (listOf free)) ⌝ }
+    ensures { λ _. ⌜ now (cat .exit) ≡ encode version1 (noFiles blocks (listOf free)) ⌝ }
 {
     let count: u32 = 0;
     let next = write_header(cat, blocks, count);
-    let end = write_pairs(cat, next, free.few());
+    let end = write_pairs(cat, next, free);
     clear(cat, end);
 }

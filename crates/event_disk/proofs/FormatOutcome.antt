@@ -21,8 +21,8 @@ use Rattle.manager.specs.Conditions.{outcome, refusal, refused, unlessRefused, 
 use Rattle.manager.specs.Disk.{pageCount}
 use Rattle.manager.specs.Outcomes.{formatOutcome}
 use Rattle.section.specs.Limits.{blockSize, catalogueSize, greatestDisk}
-use Rattle.free_pieces.specs.Free.{freeOf}
-use Rattle.free_pieces.specs.declared.Free.{Free}
+use Rattle.free_pieces.specs.Free.{listOf}
+use Rattle.free_pieces.specs.declared.Pieces.{Pieces}
 
 module _ (cat d : List ℕ) where
   abbrev formatted : Outcome
@@ -85,11 +85,11 @@ some-blocks (suc n) nz e = omega (arith, e)
 
 -- ---- the fresh catalogue's layout
 
-pub fresh-layout : (c : ℕ) (f : Free) → FreeFor c f → noFiles c (freeOf f) ≡ freshLayout 13 c
+pub fresh-layout : (c : ℕ) (f : Pieces) → FreeFor c f → noFiles c (listOf f) ≡ freshLayout 13 c
 unfolding freshLayout
 fresh-layout c f g = ap {B = Layout} (noFiles c) (g .list)
 
-pub fresh-rules : (c : ℕ) (f : Free) → 1 ≤ c → c ≤ greatestDisk → FreeFor c f → Sound 13 (noFiles c (freeOf f))
+pub fresh-rules : (c : ℕ) (f : Pieces) → 1 ≤ c → c ≤ greatestDisk → FreeFor c f → Sound 13 (noFiles c (listOf f))
 fresh-rules c f low most g =
     subst (Sound 13) (sym (fresh-layout c f g))
     (sums-sound 13 (freshLayout 13 c) (fresh-sound 13 c low (omega arith) (omega arith)))

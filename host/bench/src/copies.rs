@@ -6,11 +6,34 @@ use std::hint::black_box;
 use std::time::Instant;
 use twin::{BLOCK, CATALOGUE};
 
+/// A page of memory, in bytes.
+const PAGE: usize = 4096;
+
+/// Bytes that start a given number of bytes past a page of memory: how fast a copy is depends on that.
+struct Placed {
+    bytes: Vec<u8>,
+    start: usize,
+    length: usize,
+}
+
+impl Placed {
+    fn new(from: &[u8], past: usize) -> Placed {
+        let mut bytes = vec![0; from.len() + PAGE + past];
+        let start = bytes.as_ptr().align_offset(PAGE) + past;
+        bytes[start..start + from.len()].copy_from_slice(from);
+        Placed { bytes, start, length: from.len() }
+    }
+
+    fn get(&mut self) -> &mut [u8] {
+        &mut self.bytes[self.start..self.start + self.length]
+    }
+}
+
 /// A disk of 2^(top + 2) blocks with the files 1 of one block, 2 of 2^(top + 1) - 1 and 3 of one. Removing file 1
 /// merges at every height from 0 to top, and copies either at every merge or at none.
 struct Chain {
     cat: Vec<u8>,
-    disk: Vec<u8>,
+    disk: Placed,
     copies: Vec<(usize, usize)>,
 }
 
@@ -26,7 +49,7 @@ fn upper_pairs(top: u32) -> Vec<[u16; 2]> {
 }
 
 impl Chain {
-    fn new(top: u32, copying: bool) -> Chain {
+    fn new(top: u32, copying: bool, past: usize) -> Chain {
         let blocks = 1u16 << (top + 2);
         let (held, free) =
             if copying { (lower_pairs(top), upper_pairs(top)) } else { (upper_pairs(top), lower_pairs(top)) };
@@ -39,13 +62,13 @@ impl Chain {
         let disk: Vec<u8> = (0..usize::from(blocks) * BLOCK).map(|i| (i / BLOCK) as u8).collect();
         let copies = model::removal_copies(&cat, &disk, 1).expect("the catalogue is sound");
         assert_eq!(copies.len(), if copying { usize::from(blocks) / 2 - 1 } else { 0 });
-        Chain { cat, disk, copies }
+        Chain { cat, disk: Placed::new(&disk, past), copies }
     }
 
     /// The nanoseconds of the removal.
     fn time_removal(&mut self, side: Side) -> f64 {
         let mut cat = self.cat.clone();
-        let mut lent = Lent { disk: &mut self.disk, content: &[], out: &mut [], id: 1 };
+        let mut lent = Lent { disk: self.disk.get(), content: &[], out: &mut [], id: 1 };
         let clock = Instant::now();
         let answer = black_box(make(side, Call::Remove, black_box(&mut cat), &mut lent));
         let time = clock.elapsed().as_nanos() as f64;
@@ -55,11 +78,12 @@ impl Chain {
 
     /// The nanoseconds of the copies alone, block by block.
     fn time_copies(&mut self) -> f64 {
+        let disk = self.disk.get();
         let clock = Instant::now();
         for &(from, to) in black_box(&self.copies) {
-            self.disk.copy_within(from * BLOCK..(from + 1) * BLOCK, to * BLOCK);
+            disk.copy_within(from * BLOCK..(from + 1) * BLOCK, to * BLOCK);
         }
-        black_box(&mut self.disk);
+        black_box(disk);
         clock.elapsed().as_nanos() as f64
     }
 }
@@ -67,6 +91,8 @@ impl Chain {
 /// Nanoseconds for each copied block.
 pub struct Copies {
     pub blocks: usize,
+    /// The bytes from a page of memory to the disk's first byte.
+    pub past: usize,
     pub copied: usize,
     /// The removal that copies less the same one that does not: proved, twin, model.
     pub removals: [Spread; 3],
@@ -77,9 +103,9 @@ pub struct Copies {
     pub to_twin: Spread,
 }
 
-/// Times the removals and the copies by turns, on a disk of 2^(top + 2) blocks.
-pub fn time_copies(top: u32, rounds: usize) -> Copies {
-    let (mut copying, mut none) = (Chain::new(top, true), Chain::new(top, false));
+/// Times the removals and the copies by turns, on a disk of 2^(top + 2) blocks that starts so many bytes past a page.
+pub fn time_copies(top: u32, past: usize, rounds: usize) -> Copies {
+    let (mut copying, mut none) = (Chain::new(top, true, past), Chain::new(top, false, past));
     let sides = [Side::Proved, Side::Twin, Side::Model];
     let copied = copying.copies.len();
     let times = interleaved(4, rounds, |which| {
@@ -91,10 +117,25 @@ pub fn time_copies(top: u32, rounds: usize) -> Copies {
     });
     Copies {
         blocks: 1 << (top + 2),
+        past,
         copied,
         removals: [0, 1, 2].map(|side| Spread::of(times[side].clone())),
         alone: Spread::of(times[3].clone()),
         to_alone: Spread::of_ratios(&times[0], &times[3]),
         to_twin: Spread::of_ratios(&times[0], &times[1]),
+    }
+}
+
+#[cfg(test)]
+mod tests {
+    use super::*;
+
+    #[test]
+    fn bytes_start_past_a_page() {
+        for past in [0, 16] {
+            let mut placed = Placed::new(&[7; 512], past);
+            assert_eq!(placed.get(), [7; 512]);
+            assert_eq!(placed.get().as_ptr() as usize % PAGE, past);
+        }
     }
 }

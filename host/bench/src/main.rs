@@ -28,7 +28,8 @@ fn measure(rounds: usize) -> Measured {
             rows.push(timing::time_call(&scenes, scene, call, rounds));
         }
     }
-    let copies = [7, 10].map(|top| copies::time_copies(top, rounds)).into();
+    let places = [(7, 0), (7, 16), (10, 0), (10, 16)];
+    let copies = places.map(|(top, past)| copies::time_copies(top, past, rounds)).into();
     Measured { rounds, scenes, rows, copies }
 }
 

@@ -74,6 +74,7 @@ fn scene_table(measured: &Measured, scene: usize) -> String {
 fn copies_table(copies: &[Copies]) -> String {
     let header = [
         "disk",
+        "past a page",
         "blocks copied",
         "proved / copy_within",
         "proved / twin",
@@ -83,7 +84,8 @@ fn copies_table(copies: &[Copies]) -> String {
         "copy_within ns",
     ];
     let row = |c: &Copies| {
-        let mut cells = vec![format!("C = {}", thousands(c.blocks as f64)), thousands(c.copied as f64)];
+        let disk = format!("C = {}", thousands(c.blocks as f64));
+        let mut cells = vec![disk, format!("{} bytes", c.past), thousands(c.copied as f64)];
         cells.extend([ratio(c.to_alone), ratio(c.to_twin)]);
         let times = c.removals.into_iter().chain([c.alone]);
         cells.extend(times.map(|time| format!("{:.1}", time.median)));

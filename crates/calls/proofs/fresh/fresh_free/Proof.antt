@@ -1,7 +1,7 @@
 -- `calls::fresh::fresh_free` meets its contract. The loop's invariant: the pieces so far and those for the ones
 -- below height `h` are all, and there is room for the pieces below `h`. A turn adds the piece of its height if the
 -- quotient by the height's length is odd. Assumes nothing.
-use mathlib.Core.Path.{_∙_, _≡_, ap, sym}
+use mathlib.Core.Path.{_∙_, _≡_, ap, refl, sym}
 use Prim.Native.Nat.{_%_, _*_, _+_, _-_, _/_, _^_, _≤_, suc, ℕ}
 use native.Mathlib.Nat.{mod-le}
 use native.Mathlib.Omega.{arith}
@@ -9,8 +9,7 @@ use lib.ListN.{length, length-set}
 use borrow.Author.Needs.{needs}
 use Rattle.section.specs.Limits.{greatestHeight}
 use Rattle.layout.specs.Layout.{piecesFrom}
-use Rattle.free_pieces.proofs.Arrays.{length-of-mapped}
-use Rattle.free_pieces.specs.Free.{piecePlaces}
+use Rattle.free_pieces.specs.Free.{listOf, piecePlaces}
 use Rattle.calls.specs.Fresh.{piecesWith}
 use Rattle.calls.proofs.FreshPieces.{pieces-end, pieces-push, pieces-skip, pieces-start}
 use Rattle.calls.proofs.fresh.fresh_free.Statement.{statement}
@@ -18,27 +17,18 @@ use Rattle.calls.proofs.fresh.fresh_free.Tie as tie
 
 abbrev Inv-loop : tie.InvT-loop
 Inv-loop blocks free₀ h₀ free h =
-    (h ≤ suc greatestHeight) × (free .count + h ≤ piecePlaces) × (length (free .items) ≡ 26)
+    (h ≤ suc greatestHeight) × (free .count + h ≤ piecePlaces) × (length (free .items) ≡ piecePlaces)
     × (piecesWith blocks h free ≡ piecesFrom (suc greatestHeight) blocks 0)
 
 abbrev μ-loop : tie.MeasureT-loop
 μ-loop blocks free₀ h₀ free h = h
 
-none-requires : tie.Need-none-requires Inv-loop μ-loop
-none-requires c κs = search needs
-
 add-h : tie.Need-add-h Inv-loop μ-loop
 add-h c = search needs
 
 loop-holds : tie.Need-loop-holds Inv-loop μ-loop
-loop-holds c =
-    let n = c .none in
-    let long : length (n .result .items) ≡ 26 = search (needs, length-of-mapped) in (
-      omega arith,
-      omega (arith, n .ensures .count),
-      long,
-      pieces-start (c .before .args .blocks) (n .result) (c .before .pre) (n .ensures .list),
-    )
+unfolding listOf
+loop-holds c = (omega arith, omega arith, refl, pieces-start (c .args .blocks) _ (c .pre) refl)
 
 sub-h : tie.Need-sub-h Inv-loop μ-loop
 sub-h c = search needs
@@ -72,7 +62,7 @@ loop-less c = search needs
 
 loop-again : tie.Need-loop-again Inv-loop μ-loop
 loop-again c =
-    let b = c .before .before .before .before .before .args .blocks in
+    let b = c .before .before .before .before .args .blocks in
     let l = c .before .before .before .loop in
     let n = c .before .length in
     let more = c .before .before .loop-test .taken in
@@ -93,7 +83,7 @@ loop-less-2 c = search needs
 
 loop-again-2 : tie.Need-loop-again-2 Inv-loop μ-loop
 loop-again-2 c =
-    let b = c .before .before .before .before .before .args .blocks in
+    let b = c .before .before .before .before .args .blocks in
     let l = c .before .before .before .loop in
     let n = c .before .length in
     let more = c .before .before .loop-test .taken in
@@ -111,7 +101,7 @@ returns c =
     let l = c .before .loop in
     let e : l .h ≡ 0 = omega (arith, c .loop-test .left) in
     record {
-      list = pieces-end (c .before .before .before .args .blocks) (l .h) (l .free) e ∙ l .inv .3;
+      list = pieces-end (c .before .before .args .blocks) (l .h) (l .free) e ∙ l .inv .3;
       most = omega (arith, l .inv .1);
     }
 
@@ -121,7 +111,6 @@ fresh-free-spec =
     (tie.spec
     Inv-loop
     μ-loop
-    none-requires
     add-h
     loop-holds
     sub-h

@@ -11,7 +11,7 @@ use Rattle.section.proofs.Lengths.{pow-lt-inv}
 use Rattle.section.specs.Limits.{blockSize, greatestDisk, greatestHeight}
 use Rattle.section.specs.Sections.{buddyOf, endOf}
 use Rattle.section.specs.declared.Section.{Section}
-use Rattle.free_pieces.specs.Free.{piecePlaces}
+use Rattle.piece_lists.specs.Few.{piecePlaces}
 use Rattle.table.specs.Tables.{piecesIn}
 use Rattle.table.specs.declared.Entry.{Entry}
 

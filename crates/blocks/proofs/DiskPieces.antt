@@ -13,9 +13,9 @@ use Rattle.layout.specs.Lists.{Each, done, more}
 use Rattle.section.specs.Limits.{blockSize, greatestDisk}
 use Rattle.section.specs.Sections.{endOf, lengthOf, section}
 use Rattle.section.specs.declared.Section.{Section}
-use Rattle.free_pieces.proofs.Arrays.{ahead, behind}
-use Rattle.free_pieces.proofs.EachItem.{each-get, each-taken}
-use Rattle.free_pieces.specs.Free.{piecePlaces}
+use Rattle.piece_lists.proofs.Arrays.{ahead, behind}
+use Rattle.piece_lists.proofs.EachItem.{each-get, each-taken}
+use Rattle.piece_lists.specs.Few.{piecePlaces}
 use Rattle.table.specs.Tables.{piecesIn}
 use Rattle.table.specs.declared.Entry.{Entry}
 

@@ -12,7 +12,7 @@ use Rattle.layout.specs.Layout.{blockCount}
 use Rattle.layout.specs.Removing.{Copy}
 use Rattle.manager.specs.Disk.{runCopies}
 use Rattle.table.specs.declared.Entry.{Entry}
-use Rattle.free_pieces.specs.Free.{piecePlaces}
+use Rattle.piece_lists.specs.Few.{piecePlaces}
 use Rattle.table.specs.Tables.{piecesIn}
 
 -- ---- what is asked for

@@ -31,7 +31,7 @@ use Rattle.manager.specs.Outcomes.{addPieces}
 use Rattle.section.specs.Limits.{blockSize, mostFiles}
 use Rattle.table.proofs.Released.{find-at, find-none}
 use Rattle.table.specs.Files.{hasId}
-use Rattle.free_pieces.specs.Places.{IsPlace, firstPlace}
+use Rattle.piece_lists.specs.Places.{IsPlace, firstPlace}
 use Rattle.table.specs.Tables.{filesOf, layoutOf}
 use Rattle.table.specs.declared.Table.{Table}
 

@@ -13,8 +13,8 @@ use Rattle.section.specs.Limits.{greatestDisk, greatestHeight}
 use Rattle.section.specs.Sections.{section}
 use Rattle.section.specs.declared.Section.{Section}
 use Rattle.free_pieces.proofs.LaidMore.{pushed}
-use Rattle.free_pieces.specs.Free.{listOf}
-use Rattle.free_pieces.specs.declared.Pieces.{Pieces}
+use Rattle.piece_lists.specs.Few.{listOf}
+use Rattle.piece_lists.specs.declared.Pieces.{Pieces}
 
 -- ---- one height
 

@@ -33,8 +33,8 @@ use Rattle.table.proofs.Released.{find-at, find-none, first-of-id}
 use Rattle.table.proofs.TableSteps.{few-free, table-released-whole}
 use Rattle.table.specs.Files.{entryAt, hasId}
 use Rattle.table.specs.Merges.{Released}
-use Rattle.free_pieces.specs.Places.{firstPlace}
-use Rattle.free_pieces.specs.Free.{piecePlaces}
+use Rattle.piece_lists.specs.Places.{firstPlace}
+use Rattle.piece_lists.specs.Few.{piecePlaces}
 use Rattle.table.specs.Tables.{fileOf, filesOf, layoutOf}
 use Rattle.table.specs.declared.Table.{Table}
 

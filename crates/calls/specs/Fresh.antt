@@ -5,8 +5,8 @@ use Prim.Native.Nat.{ℕ, suc, _-_, _%_, _^_, _≤_}
 use Rattle.section.specs.declared.Section.{Section}
 use Rattle.section.specs.Limits.{greatestHeight}
 use Rattle.layout.specs.Layout.{piecesFrom}
-use Rattle.free_pieces.specs.declared.Pieces.{Pieces}
-use Rattle.free_pieces.specs.Free.{listOf, piecePlaces}
+use Rattle.piece_lists.specs.declared.Pieces.{Pieces}
+use Rattle.piece_lists.specs.Few.{listOf, piecePlaces}
 
 -- the pieces so far, and those for the ones of c below height h, which start where the higher ones end
 unfoldable pub piecesWith : ℕ → ℕ → Pieces → List Section

@@ -2,7 +2,7 @@
 ghost use Prim.Native.Nat.{_≤_};
 ghost use Rattle.section.specs.Limits.{greatestDisk};
 ghost use Rattle.calls.specs.Fresh.{FreeFor};
-use free_pieces::Pieces;
+use piece_lists::Pieces;
 use section::Height;
 use section::Section;
 

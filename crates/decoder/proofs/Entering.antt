@@ -22,7 +22,7 @@ use Rattle.layout.specs.Layout.{File, blockCount, byLength}
 use Rattle.section.proofs.Nested.{inside}
 use Rattle.section.specs.Sections.{lengthOf}
 use Rattle.section.specs.declared.Section.{Section}
-use Rattle.free_pieces.specs.Free.{listOf, piecePlaces}
+use Rattle.piece_lists.specs.Few.{listOf, piecePlaces}
 use Rattle.table.specs.Tables.{fileOf}
 use Rattle.table.specs.declared.Entry.{Entry}
 

@@ -12,7 +12,7 @@ use Rattle.soundness.proofs.Joined.{filesTo}
 use Rattle.decoder.specs.Entries.{EntryAt, allAccepted}
 use Rattle.decoder.specs.Fields.{fieldValues}
 use Rattle.decoder.specs.declared.EntryRead.{EntryRead}
-use Rattle.free_pieces.proofs.EachItem.{each-set}
+use Rattle.piece_lists.proofs.EachItem.{each-set}
 use Rattle.layout.specs.Layout.{fileBlocks}
 use Rattle.layout.specs.Lists.{Each, sumOf}
 use Rattle.section.proofs.Nested.{inside}

@@ -20,7 +20,7 @@ use Rattle.layout.specs.Lists.{sumOf}
 use Rattle.section.proofs.Nested.{inside}
 use Rattle.section.specs.Limits.{greatestDisk}
 use Rattle.section.specs.declared.Section.{Section}
-use Rattle.free_pieces.specs.Free.{listOf, piecePlaces}
+use Rattle.piece_lists.specs.Few.{listOf, piecePlaces}
 
 pub sum-pushed {ℓ} : {A : Type ℓ} (w : A → ℕ) (p : List A) (m : ℕ) (a : A) → m < length p
     → sumOf w (take (m + 1) (set p m a)) ≡ sumOf w (take m p) + w a

@@ -25,7 +25,8 @@ use Rattle.layout.proofs.MergeAll.{rest}
 use Rattle.layout.specs.Layout.{blockCount, fileBlocks}
 use Rattle.layout.specs.Lists.{sumOf}
 use Rattle.section.proofs.Nested.{inside}
-use Rattle.free_pieces.specs.Free.{Lists, freeOf, listOf, piecePlaces}
+use Rattle.piece_lists.specs.Few.{listOf, piecePlaces}
+use Rattle.free_pieces.specs.Free.{Lists, freeOf}
 use Rattle.free_pieces.specs.declared.Free.{Free}
 use Rattle.table.specs.Tables.{fileOf, filesOf, layoutOf}
 use Rattle.table.specs.declared.Entry.{Entry}

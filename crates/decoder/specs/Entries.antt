@@ -7,7 +7,7 @@ use lib.Dec.{leb, eqb}
 use lib.ListN.{length, drop}
 use Rattle.section.specs.declared.Section.{Section}
 use Rattle.layout.specs.Layout.{File, blockCount, fileBlocks}
-use Rattle.free_pieces.specs.Free.{piecePlaces}
+use Rattle.piece_lists.specs.Few.{piecePlaces}
 use Rattle.table.specs.Tables.{fileOf, piecesIn}
 use Rattle.catalogue.specs.Version.{version1}
 use Rattle.catalogue.specs.Reading.{Read, got, bad, every, soundFile, readEntry}

@@ -8,7 +8,7 @@ use Rattle.section.specs.declared.Section.{Section}
 use Rattle.section.specs.Limits.{greatestDisk}
 use Rattle.section.specs.Sections.{lengthOf}
 use Rattle.layout.specs.Layout.{blockCount}
-use Rattle.free_pieces.specs.Free.{listOf, piecePlaces}
+use Rattle.piece_lists.specs.Few.{listOf, piecePlaces}
 use Rattle.catalogue.specs.Version.{version1}
 use Rattle.catalogue.specs.Reading.{Read, got, bad, then, readField, readPair, readPairs}
 use Rattle.decoder.specs.declared.PairRead.{PairRead}

@@ -7,7 +7,7 @@ use lib.Dec.{eqb}
 use lib.ListN.{length, drop}
 use Rattle.section.specs.Limits.{mostFiles}
 use Rattle.table.specs.declared.Table.{Table}
-use Rattle.free_pieces.specs.Free.{piecePlaces}
+use Rattle.piece_lists.specs.Few.{piecePlaces}
 use Rattle.table.specs.Tables.{layoutOf}
 use Rattle.catalogue.specs.Version.{version1}
 use Rattle.catalogue.specs.Reading.{got, every, readHeader, readLayout, Reading, sound, unsound, readCatalogue}

@@ -4,12 +4,12 @@ use crate::fields::read_field;
 use crate::fields::read_pairs;
 use crate::pieces::no_entry;
 use crate::pieces::sorted;
-use free_pieces::Pieces;
+use piece_lists::Pieces;
 use soundness::in_order;
 ghost use mathlib.Core.Path.{_≡_};
 ghost use Prim.Native.Nat.{_≤_};
 ghost use Rattle.layout.specs.Layout.{blockCount};
-ghost use Rattle.free_pieces.specs.Free.{listOf, piecePlaces};
+ghost use Rattle.piece_lists.specs.Few.{listOf, piecePlaces};
 ghost use Rattle.decoder.specs.Entries.{EntryAt, NoFile, isFile};
 
 // Whether the pairs of a list, which sum to `sum`, make a file of an id and n blocks.

@@ -1,7 +1,7 @@
 // Fields of two bytes and pairs of fields, read at a place of the catalogue.
 use crate::PairRead;
 use crate::PairsRead;
-use free_pieces::Pieces;
+use piece_lists::Pieces;
 use section::Height;
 use section::Measured;
 use section::Section;
@@ -9,7 +9,7 @@ ghost use mathlib.Core.Path.{_≡_};
 ghost use mathlib.Core.Bool.{true, false};
 ghost use Prim.Native.Nat.{_+_, _<_, _≤_};
 ghost use lib.ListN.{length};
-ghost use Rattle.free_pieces.specs.Free.{piecePlaces};
+ghost use Rattle.piece_lists.specs.Few.{piecePlaces};
 ghost use Rattle.decoder.specs.Fields.{FieldAt, PairAt, PairsAt};
 
 fn wide(x: u8) -> u32

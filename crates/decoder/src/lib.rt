@@ -1,5 +1,5 @@
 // The bytes of a catalogue: a table is read from them, and refused unless it is sound.
-use free_pieces::Pieces;
+use piece_lists::Pieces;
 use section::Section;
 use soundness::is_sound;
 use table::Entry;

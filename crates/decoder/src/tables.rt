@@ -86,7 +86,7 @@ fn read_body(cat: &[u8], blocks: u32, count: usize) -> TableRead
         return unread();
     }
     let list = pairs.list;
-    let free = list.free();
+    let free = Free::of(list);
     TableRead {
         ok: true,
         sum,

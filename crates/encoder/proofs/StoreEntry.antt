@@ -8,10 +8,10 @@ use Rattle.section.specs.declared.Section.{Section}
 use Rattle.layout.proofs.Lists.{each-sort}
 use Rattle.layout.specs.Layout.{byFirst, fileBlocks}
 use Rattle.layout.specs.Lists.{Each, sortBy}
-use Rattle.free_pieces.specs.Free.{ListsFew, listOf}
+use Rattle.piece_lists.specs.Few.{ListsFew, listOf}
 use Rattle.table.specs.Tables.{fileOf, piecesIn}
 use Rattle.table.specs.declared.Entry.{Entry}
-use Rattle.free_pieces.specs.declared.Pieces.{Pieces}
+use Rattle.piece_lists.specs.declared.Pieces.{Pieces}
 use Rattle.catalogue.proofs.Fields.{bigEndian-length}
 use Rattle.catalogue.specs.Encoding.{bigEndian, entryBytes, pairBytes, pairsBytes}
 use Rattle.pieces.specs.Pieces.{Low, LowEntry}

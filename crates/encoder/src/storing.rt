@@ -1,6 +1,6 @@
 // A table stored as the bytes of a catalogue, front to back: each function writes its bytes from `at` on and answers
 // the position after them, and `clear` writes the zero bytes after the last.
-use free_pieces::Pieces;
+use piece_lists::Pieces;
 use section::Section;
 use table::Entry;
 use table::Table;
@@ -12,7 +12,7 @@ ghost use Rattle.section.specs.Heights.{NoHigher};
 ghost use Rattle.section.specs.Limits.{catalogueSize};
 ghost use Rattle.layout.specs.Lists.{Each};
 ghost use Rattle.layout.specs.Sound.{Sound};
-ghost use Rattle.free_pieces.specs.Free.{listOf, piecePlaces};
+ghost use Rattle.piece_lists.specs.Few.{listOf, piecePlaces};
 ghost use Rattle.table.specs.Tables.{Sized, fileOf, layoutOf};
 ghost use Rattle.catalogue.specs.Encoding.{bigEndian, encode, entryBytes, pairBytes, pairsBytes};
 ghost use Rattle.catalogue.specs.Version.{version1};

@@ -21,8 +21,8 @@ use Rattle.manager.specs.Conditions.{outcome, refusal, refused, unlessRefused, 
 use Rattle.manager.specs.Disk.{pageCount}
 use Rattle.manager.specs.Outcomes.{formatOutcome}
 use Rattle.section.specs.Limits.{blockSize, catalogueSize, greatestDisk}
-use Rattle.free_pieces.specs.Free.{listOf}
-use Rattle.free_pieces.specs.declared.Pieces.{Pieces}
+use Rattle.piece_lists.specs.Few.{listOf}
+use Rattle.piece_lists.specs.declared.Pieces.{Pieces}
 
 module _ (cat d : List ℕ) where
   abbrev formatted : Outcome

@@ -11,7 +11,7 @@ use Rattle.layout.specs.Adding.{Taken, keeping, nothing, takeFirst, takeOfHeigh
 use Rattle.layout.specs.Removing.{MergePair, fewer, mergePair, pair, secondOf, withLower}
 use Rattle.section.specs.declared.Section.{Section}
 use Rattle.free_pieces.specs.Free.{freeOf, lowestPair, pairOf, takenOf}
-use Rattle.free_pieces.specs.Places.{firstPlace, withoutAt}
+use Rattle.piece_lists.specs.Places.{firstPlace, withoutAt}
 use Rattle.free_pieces.specs.declared.Drawn.{Drawn}
 use Rattle.free_pieces.specs.declared.Pair.{Pair}
 

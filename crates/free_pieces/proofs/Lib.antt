@@ -1,7 +1,4 @@
 -- Laws of arrays and of the free pieces, and the proofs of the functions.
-pub mod Arrays
-pub mod EachItem
-pub mod Insertion
 pub mod Draws
 pub mod Fewer
 pub mod PieceTaken

@@ -6,7 +6,8 @@ use Prim.Native.Nat.{_≤_}
 use lib.ListN.{take}
 use Rattle.layout.specs.Adding.{Allocated, allocated, tooFew}
 use Rattle.section.specs.declared.Section.{Section}
-use Rattle.free_pieces.specs.Free.{freeOf, piecePlaces}
+use Rattle.piece_lists.specs.Few.{piecePlaces}
+use Rattle.free_pieces.specs.Free.{freeOf}
 use Rattle.free_pieces.specs.Taking.{Stocked}
 use Rattle.free_pieces.specs.declared.Laid.{Laid}
 

@@ -10,14 +10,10 @@ use Rattle.layout.specs.Removing.{MergePair, pair, fewer, mergePair}
 use Rattle.free_pieces.specs.declared.Drawn.{Drawn}
 use Rattle.free_pieces.specs.declared.Free.{Free}
 use Rattle.free_pieces.specs.declared.Pair.{Pair}
-use Rattle.free_pieces.specs.declared.Pieces.{Pieces}
 
--- the places of the arrays: of free pieces and of a file's pieces
+-- the places for free pieces
 abbrev pub freePlaces : ℕ
 freePlaces = 26
-
-abbrev pub piecePlaces : ℕ
-piecePlaces = 13
 
 -- the free pieces
 unfoldable pub freeOf : Free → List Section
@@ -28,17 +24,6 @@ pub record Lists (n : ℕ) (l : List Section) (r : Free) : Type 0 where
   pub count : r .count ≡ n
   pub list : freeOf r ≡ l
   pub exact : length l ≡ n
-
--- the pieces of a list with few
-unfoldable pub listOf : Pieces → List Section
-listOf p = take (p .count) (p .items)
-
--- r stands for the list l of n pieces, which are few
-pub record ListsFew (n : ℕ) (l : List Section) (r : Pieces) : Type 0 where
-  pub count : r .count ≡ n
-  pub list : listOf r ≡ l
-  pub exact : length l ≡ n
-  pub few : n ≤ piecePlaces
 
 -- what was taken, if a piece was found
 unfoldable pub takenOf : Drawn → Taken

@@ -1,9 +1,10 @@
 // Lists with few pieces: the free pieces of a sound layout in as many places as they need, and back. A list of this
 // size is passed on without a call to copy it.
 ghost use Prim.Native.Nat.{_≤_};
-ghost use Rattle.free_pieces.specs.Free.{freeOf, listOf, piecePlaces, Lists, ListsFew};
+ghost use Rattle.piece_lists.specs.Few.{listOf, piecePlaces, ListsFew};
+ghost use Rattle.free_pieces.specs.Free.{freeOf, Lists};
 use crate::Free;
-use crate::Pieces;
+use piece_lists::Pieces;
 use section::Height;
 use section::Section;
 
@@ -27,23 +28,21 @@ impl Free {
         }
         Pieces { count, items }
     }
-}
 
-impl Pieces {
-    // The pieces as free pieces.
-    pub fn free(self) -> Free
-        requires { ⌜ self .count ≤ piecePlaces ⌝ }
-        ensures { λ r. ⌜ Lists (self .count) (listOf self) r ⌝ }
+    // Few pieces as free pieces.
+    pub fn of(list: Pieces) -> Free
+        requires { ⌜ list .count ≤ piecePlaces ⌝ }
+        ensures { λ r. ⌜ Lists (list .count) (listOf list) r ⌝ }
     {
         let s = Section {
             first: 0,
             height: Height { value: 0 },
         };
-        let count = self.count;
+        let count = list.count;
         let mut items = [s; 26];
         let mut j: usize = 0;
         while j < count {
-            let piece = self.items[j];
+            let piece = list.items[j];
             items[j] = piece;
             j += 1;
         }

@@ -7,7 +7,6 @@ mod allocating;
 mod few;
 mod lists;
 mod pairs;
-mod sorting;
 mod taking;
 
 pub use allocating::allocate;
@@ -17,18 +16,6 @@ pub use taking::take_piece;
 pub struct Free {
     pub count: usize,
     pub items: [Section; 26],
-}
-
-// Few pieces: no more than a file of a sound layout has, or its free space.
-pub struct Pieces {
-    pub count: usize,
-    pub items: [Section; 13],
-}
-
-// The orders of pieces: the one of the bytes, by rising first block, and page order, by falling length.
-pub enum Order {
-    First,
-    Length,
 }
 
 // A piece that was taken and the pieces that are left, if one was found.

@@ -14,7 +14,7 @@ use Rattle.manager.specs.Conditions.{wrongDisk}
 use Rattle.manager.specs.Outcomes.{breaksFound}
 use Rattle.section.specs.Limits.{blockSize}
 use Rattle.section.specs.declared.Section.{Section}
-use Rattle.free_pieces.specs.Free.{piecePlaces}
+use Rattle.piece_lists.specs.Few.{piecePlaces}
 use Rattle.table.specs.Tables.{layoutOf, piecesIn}
 use Rattle.table.specs.declared.Entry.{Entry}
 use Rattle.table.specs.declared.Table.{Table}

@@ -12,11 +12,11 @@ use Rattle.layout.proofs.Lists.{each-left}
 use Rattle.layout.specs.Layout.{File, OnDisk, blockCount, fileBlocks, filePieces, findFile, found, missing}
 use Rattle.layout.specs.Lists.{Each, more}
 use Rattle.section.specs.Limits.{blockSize, greatestDisk}
-use Rattle.free_pieces.proofs.EachItem.{each-get, each-taken}
+use Rattle.piece_lists.proofs.EachItem.{each-get, each-taken}
 use Rattle.table.proofs.Released.{find-at, find-none}
 use Rattle.table.specs.Files.{entryAt, hasId, noEntry}
-use Rattle.free_pieces.specs.Places.{IsPlace, firstPlace}
-use Rattle.free_pieces.specs.Free.{piecePlaces}
+use Rattle.piece_lists.specs.Places.{IsPlace, firstPlace}
+use Rattle.piece_lists.specs.Few.{piecePlaces}
 use Rattle.table.specs.Tables.{InPlaces, fileOf, filesOf, layoutOf, piecesIn}
 use Rattle.table.specs.declared.Table.{Table}
 use Rattle.pieces.proofs.SoundPieces.{files-low}

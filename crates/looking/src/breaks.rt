@@ -2,7 +2,7 @@
 ghost use mathlib.Core.Path.{_≡_};
 ghost use Prim.Native.Nat.{_≤_};
 ghost use Rattle.layout.specs.Layout.{blockCount, breaksOf, findFile};
-ghost use Rattle.free_pieces.specs.Free.{piecePlaces};
+ghost use Rattle.piece_lists.specs.Few.{piecePlaces};
 ghost use Rattle.table.specs.Tables.{layoutOf, piecesIn};
 ghost use Rattle.manager.specs.Conditions.{fileChecks, firstRefusal, replyUnless};
 ghost use Rattle.manager.specs.Outcomes.{breaksFound};

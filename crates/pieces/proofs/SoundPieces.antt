@@ -12,8 +12,9 @@ use Rattle.layout.proofs.Soundness.{free-few}
 use Rattle.layout.specs.Layout.{filePieces}
 use Rattle.layout.specs.Lists.{Each}
 use Rattle.layout.specs.Sound.{Sound}
-use Rattle.free_pieces.proofs.EachItem.{each-take}
-use Rattle.free_pieces.specs.Free.{freeOf, freePlaces, piecePlaces}
+use Rattle.piece_lists.proofs.EachItem.{each-take}
+use Rattle.piece_lists.specs.Few.{piecePlaces}
+use Rattle.free_pieces.specs.Free.{freeOf, freePlaces}
 use Rattle.table.specs.Tables.{Sized, fileOf, filesOf, layoutOf}
 use Rattle.table.specs.declared.Entry.{Entry}
 use Rattle.table.specs.declared.Table.{Table}

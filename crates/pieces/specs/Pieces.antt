@@ -6,7 +6,7 @@ use Rattle.section.specs.Heights.{NoHigher}
 use Rattle.section.specs.Limits.{greatestHeight, mostFiles}
 use Rattle.section.specs.declared.Section.{Section}
 use Rattle.layout.specs.Lists.{Each}
-use Rattle.free_pieces.specs.Free.{piecePlaces}
+use Rattle.piece_lists.specs.Few.{piecePlaces}
 use Rattle.table.specs.Tables.{InPlaces, piecesIn}
 use Rattle.table.specs.declared.Entry.{Entry}
 use Rattle.table.specs.declared.Table.{Table}

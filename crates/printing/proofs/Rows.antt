@@ -6,7 +6,7 @@ use lib.ListN.{drop, getD, length, take}
 use Rattle.manager.specs.Printing.{allFileLines, fileLines, pairLine, pairLines}
 use Rattle.section.specs.Sections.{section}
 use Rattle.section.specs.declared.Section.{Section}
-use Rattle.free_pieces.proofs.Arrays.{ahead, behind}
+use Rattle.piece_lists.proofs.Arrays.{ahead, behind}
 use Rattle.table.specs.Files.{noEntry}
 use Rattle.table.specs.Tables.{fileOf}
 use Rattle.table.specs.declared.Entry.{Entry}

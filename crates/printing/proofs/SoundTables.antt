@@ -8,7 +8,7 @@ use Rattle.layout.specs.Layout.{File, fileBlocks}
 use Rattle.layout.specs.Lists.{Each, sumOf}
 use Rattle.layout.specs.Sound.{Sound}
 use Rattle.manager.specs.Printing.{layoutText}
-use Rattle.free_pieces.proofs.EachItem.{each-take}
+use Rattle.piece_lists.proofs.EachItem.{each-take}
 use Rattle.free_pieces.specs.Free.{freeOf}
 use Rattle.table.specs.Tables.{Sized, fileOf, filesOf, layoutOf}
 use Rattle.table.specs.declared.Entry.{Entry}

@@ -22,7 +22,8 @@ use Rattle.soundness.proofs.Points.{false-true, is-false}
 use Rattle.soundness.specs.Checking.{idsRise, noneShared, sumsAgree}
 use Rattle.soundness.specs.Counts.{Counted, Exact}
 use Rattle.soundness.specs.Order.{inOrder}
-use Rattle.free_pieces.specs.Free.{freeOf, piecePlaces}
+use Rattle.piece_lists.specs.Few.{piecePlaces}
+use Rattle.free_pieces.specs.Free.{freeOf}
 use Rattle.table.specs.Tables.{filesOf, layoutOf}
 use Rattle.table.specs.declared.Table.{Table}
 

@@ -8,7 +8,7 @@ ghost use mathlib.Core.Path.{_≡_};
 ghost use Prim.Native.Nat.{_≤_};
 ghost use lib.ListN.{length};
 ghost use Rattle.layout.specs.Layout.{allPieces};
-ghost use Rattle.free_pieces.specs.Free.{piecePlaces};
+ghost use Rattle.piece_lists.specs.Few.{piecePlaces};
 ghost use Rattle.table.specs.Tables.{layoutOf};
 ghost use Rattle.soundness.specs.Checking.{gatheredPlaces, piecesOf};
 ghost use Rattle.soundness.specs.Counts.{Exact};

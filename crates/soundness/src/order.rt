@@ -1,9 +1,9 @@
 // The order of pieces in the bytes.
-use free_pieces::Pieces;
+use piece_lists::Pieces;
 use section::Section;
 ghost use mathlib.Core.Path.{_≡_};
 ghost use Prim.Native.Nat.{_≤_};
-ghost use Rattle.free_pieces.specs.Free.{listOf, piecePlaces};
+ghost use Rattle.piece_lists.specs.Few.{listOf, piecePlaces};
 ghost use Rattle.soundness.specs.Order.{inOrder, inTurn};
 
 // Whether `b` may stand after `a`: it starts later and has another length.

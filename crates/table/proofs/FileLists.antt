@@ -12,11 +12,11 @@ use Rattle.layout.specs.Lists.{insertBy}
 use Rattle.layout.specs.Removing.{movedFile}
 use Rattle.section.specs.Sections.{movedInto}
 use Rattle.section.specs.declared.Section.{Section}
-use Rattle.free_pieces.proofs.Arrays.{insert-withAt}
+use Rattle.piece_lists.proofs.Arrays.{insert-withAt}
 use Rattle.table.proofs.MapFirst.{take-mapFirst}
 use Rattle.table.specs.Files.{noLowerId}
 use Rattle.table.specs.Moves.{mapFirst, movedEntry}
-use Rattle.free_pieces.specs.Places.{firstPlace, withAt, withoutAt}
+use Rattle.piece_lists.specs.Places.{firstPlace, withAt, withoutAt}
 use Rattle.free_pieces.specs.Free.{freeOf}
 use Rattle.table.specs.Tables.{fileOf, filesOf, layoutOf, piecesIn}
 use Rattle.table.specs.declared.Entry.{Entry}

@@ -5,9 +5,9 @@ use native.Mathlib.Omega.{arith}
 use lib.ListN.{getD, length, set}
 use Rattle.section.specs.Sections.{Addressable, buddyOf}
 use Rattle.section.specs.declared.Section.{Section}
-use Rattle.free_pieces.proofs.EachItem.{each-get, each-taken}
+use Rattle.piece_lists.proofs.EachItem.{each-get, each-taken}
 use Rattle.free_pieces.specs.Free.{Lists, freeOf}
-use Rattle.free_pieces.specs.Places.{firstPlace}
+use Rattle.piece_lists.specs.Places.{firstPlace}
 use Rattle.free_pieces.specs.declared.Pair.{Pair}
 use Rattle.table.proofs.MapFirst.{file-stays, length-mapFirst, mapFirst-at, mapFirst-kept, mapFirst-more}
 use Rattle.table.proofs.MapFirst.{mapFirst-none}

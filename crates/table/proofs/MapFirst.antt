@@ -12,7 +12,7 @@ use Rattle.layout.specs.Lists.{Each, done, more}
 use Rattle.section.specs.Sections.{isInside, movedInto, section}
 use Rattle.section.specs.declared.Section.{Section}
 use Rattle.table.specs.Moves.{liesIn, mapFirst, movedEntry}
-use Rattle.free_pieces.specs.Places.{firstPlace}
+use Rattle.piece_lists.specs.Places.{firstPlace}
 use Rattle.table.specs.Tables.{piecesIn}
 use Rattle.table.specs.declared.Entry.{Entry}
 

@@ -8,9 +8,9 @@ use lib.Seq.{getD-take, length-take-le}
 use borrow.Author.Tests.{eq-eqb, ne-eqb}
 use Rattle.layout.specs.Layout.{File}
 use Rattle.layout.specs.Lists.{Pairwise, next}
-use Rattle.free_pieces.proofs.EachItem.{each-get}
+use Rattle.piece_lists.proofs.EachItem.{each-get}
 use Rattle.table.specs.Files.{entryAt, hasId, noEntry}
-use Rattle.free_pieces.specs.Places.{firstPlace}
+use Rattle.piece_lists.specs.Places.{firstPlace}
 use Rattle.table.specs.Tables.{fileOf, filesOf}
 use Rattle.table.specs.declared.Table.{Table}
 

@@ -12,8 +12,9 @@ use Rattle.table.proofs.ReadyPairs.{Fits}
 use Rattle.table.proofs.Released.{find-at}
 use Rattle.table.specs.Files.{entryAt, hasId}
 use Rattle.table.specs.Merges.{Merged, Released}
-use Rattle.free_pieces.specs.Places.{firstPlace}
-use Rattle.free_pieces.specs.Free.{freeOf, piecePlaces}
+use Rattle.piece_lists.specs.Places.{firstPlace}
+use Rattle.piece_lists.specs.Few.{piecePlaces}
+use Rattle.free_pieces.specs.Free.{freeOf}
 use Rattle.table.specs.Tables.{fileOf, filesOf, layoutOf}
 use Rattle.free_pieces.specs.declared.Pair.{Pair}
 use Rattle.table.specs.declared.Table.{Table}

@@ -7,7 +7,8 @@ use Rattle.section.specs.declared.Section.{Section}
 use Rattle.section.specs.Limits.{mostFiles}
 use Rattle.layout.specs.Layout.{File, Layout}
 use Rattle.layout.specs.Lists.{Each}
-use Rattle.free_pieces.specs.Free.{freeOf, freePlaces, piecePlaces}
+use Rattle.piece_lists.specs.Few.{piecePlaces}
+use Rattle.free_pieces.specs.Free.{freeOf, freePlaces}
 use Rattle.table.specs.declared.Entry.{Entry}
 use Rattle.table.specs.declared.Table.{Table}
 

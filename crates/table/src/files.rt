@@ -1,7 +1,7 @@
 // The files of a table: one is found by its id, one is put in by rising id.
 ghost use Prim.Native.Nat.{_<_, _≤_};
 ghost use Rattle.section.specs.Limits.{mostFiles};
-ghost use Rattle.free_pieces.specs.Places.{IsPlace, firstPlace};
+ghost use Rattle.piece_lists.specs.Places.{IsPlace, firstPlace};
 ghost use Rattle.free_pieces.specs.Free.{freePlaces};
 ghost use Rattle.table.specs.Tables.{InPlaces, Sized, filesOf};
 ghost use Rattle.table.specs.Files.{Adds, hasId};

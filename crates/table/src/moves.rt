@@ -1,7 +1,7 @@
 // Moving: what lies inside one section goes to the same distance inside another.
 ghost use mathlib.Core.Path.{_≡_};
 ghost use Rattle.section.specs.Sections.{Addressable};
-ghost use Rattle.free_pieces.specs.Places.{IsPlace, firstPlace};
+ghost use Rattle.piece_lists.specs.Places.{IsPlace, firstPlace};
 ghost use Rattle.table.specs.Tables.{InPlaces, piecesIn};
 ghost use Rattle.table.specs.Moves.{CanMove, PiecesServed, liesIn, movedEntry};
 use crate::Entry;

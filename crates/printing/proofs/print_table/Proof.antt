@@ -4,7 +4,7 @@ use native.Mathlib.Omega.{arith}
 use borrow.Author.Needs.{needs}
 use Rattle.manager.specs.Printing.{layoutText}
 use Rattle.table.specs.Tables.{layoutOf}
-use Rattle.free_pieces.proofs.Arrays.{length-of-mapped}
+use Rattle.piece_lists.proofs.Arrays.{length-of-mapped}
 use Rattle.pieces.proofs.SoundPieces.{files-low, free-low, free-places}
 use Rattle.printing.proofs.SoundTables.{files-fit, table-room}
 use Rattle.printing.proofs.TextRoom.{text-size}

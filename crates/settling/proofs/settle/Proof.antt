@@ -7,7 +7,7 @@ use native.Mathlib.Omega.{arith}
 use lib.ListN.{length}
 use borrow.Author.Needs.{needs}
 use Rattle.section.specs.Limits.{blockSize}
-use Rattle.free_pieces.proofs.Arrays.{length-of-mapped}
+use Rattle.piece_lists.proofs.Arrays.{length-of-mapped}
 use Rattle.free_pieces.specs.Free.{Pairs, freeOf, lowestPair}
 use Rattle.table.proofs.FilesMoving.{FilesMoving, moving-can, moving-end, moving-free, moving-kept, moving-long}
 use Rattle.table.specs.declared.Table.{Table}

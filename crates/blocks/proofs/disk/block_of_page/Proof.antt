@@ -10,8 +10,8 @@ use borrow.Author.Needs.{needs}
 use Rattle.blocks.proofs.DiskPieces.{page-here, page-later, page-none, piece-fits}
 use Rattle.layout.specs.Layout.{blocksOf}
 use Rattle.section.specs.Limits.{blockSize, greatestDisk}
-use Rattle.free_pieces.proofs.Arrays.{length-of-mapped}
-use Rattle.free_pieces.specs.Free.{piecePlaces}
+use Rattle.piece_lists.proofs.Arrays.{length-of-mapped}
+use Rattle.piece_lists.specs.Few.{piecePlaces}
 use Rattle.blocks.proofs.disk.block_of_page.Statement.{statement}
 use Rattle.blocks.proofs.disk.block_of_page.Tie as tie
 

@@ -9,8 +9,8 @@ use Rattle.blocks.proofs.DiskPieces.{noSection, piece-fits}
 use Rattle.blocks.proofs.DiskWriting.{left-all, left-end, left-more, leftOver}
 use Rattle.layout.specs.Layout.{blockCount}
 use Rattle.section.specs.Limits.{blockSize}
-use Rattle.free_pieces.proofs.Arrays.{ahead, behind, length-of-mapped}
-use Rattle.free_pieces.specs.Free.{piecePlaces}
+use Rattle.piece_lists.proofs.Arrays.{ahead, behind, length-of-mapped}
+use Rattle.piece_lists.specs.Few.{piecePlaces}
 use Rattle.pieces.proofs.PieceCounts.{count-here}
 use Rattle.blocks.proofs.disk.write_pages.Statement.{statement}
 use Rattle.blocks.proofs.disk.write_pages.Tie as tie

@@ -9,7 +9,7 @@ use lib.ListN.{length, length-set}
 use borrow.Author.Needs.{needs}
 use Rattle.section.specs.Limits.{greatestHeight}
 use Rattle.layout.specs.Layout.{piecesFrom}
-use Rattle.free_pieces.specs.Free.{listOf, piecePlaces}
+use Rattle.piece_lists.specs.Few.{listOf, piecePlaces}
 use Rattle.calls.specs.Fresh.{piecesWith}
 use Rattle.calls.proofs.FreshPieces.{pieces-end, pieces-push, pieces-skip, pieces-start}
 use Rattle.calls.proofs.fresh.fresh_free.Statement.{statement}

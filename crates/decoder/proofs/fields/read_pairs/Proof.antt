@@ -10,7 +10,7 @@ use borrow.Author.Tests.{not-true, not-false}
 use Rattle.section.specs.Limits.{greatestDisk}
 use Rattle.section.specs.Sections.{lengthOf}
 use Rattle.layout.specs.Layout.{blockCount}
-use Rattle.free_pieces.specs.Free.{piecePlaces}
+use Rattle.piece_lists.specs.Few.{piecePlaces}
 use Rattle.decoder.proofs.Runs.{PairsLeft, Left, left-start, left-more, left-bad, left-end, no-pairs-at}
 use Rattle.decoder.proofs.Runs.{some-pairs-at, sum-pushed}
 use Rattle.decoder.proofs.fields.read_pairs.Statement.{statement}

@@ -2,7 +2,7 @@
 use mathlib.Core.Path.{refl}
 use native.Mathlib.Omega.{arith}
 use borrow.Author.Needs.{needs}
-use Rattle.free_pieces.proofs.EachItem.{each-replicate}
+use Rattle.piece_lists.proofs.EachItem.{each-replicate}
 use Rattle.free_pieces.specs.Free.{freeOf}
 use Rattle.table.specs.Tables.{filesOf}
 use Rattle.decoder.proofs.tables.no_table.Statement.{statement}

@@ -8,7 +8,7 @@ use lib.ListN.{length}
 use borrow.Author.Needs.{needs}
 use borrow.Author.Tests.{not-true, not-false}
 use Rattle.section.specs.Limits.{catalogueSize}
-use Rattle.free_pieces.proofs.EachItem.{each-replicate}
+use Rattle.piece_lists.proofs.EachItem.{each-replicate}
 use Rattle.decoder.specs.Loading.{HeaderAt}
 use Rattle.decoder.proofs.Filled.{FilesAt, filled-bad, filled-inside, filled-more, filled-start}
 use Rattle.decoder.proofs.Tabled.{table-at, unread-at, unread-free, unread-many}
@@ -138,8 +138,8 @@ returns-3 c =
     (c .before .before .before .read-pairs .ensures) (not-true _ (c .before .if3 .taken)))
     (c .unread3 .ensures)
 
-free-requires : tie.Need-free-requires Inv-loop μ-loop
-free-requires c κs = search needs
+of-requires : tie.Need-of-requires Inv-loop μ-loop
+of-requires c κs = search needs
 
 mul-t25 : tie.Need-mul-t25 Inv-loop μ-loop
 mul-t25 c = search needs
@@ -155,7 +155,7 @@ returns-4 c =
     let t = a .before .loop-test .left in
     let e : b .loop .i ≡ b .before .before .before .args .count = omega (arith, t) in
     table-at _ _ _ (v .1) _ _ _ _ (v .2) e _ (a .left-free .ensures .0) _
-    (c .before .before .before .before .read-pairs .ensures) _ (c .free .ensures)
+    (c .before .before .before .before .read-pairs .ensures) _ (c .of .ensures)
     (not-false _ (c .before .before .if3 .left))
 
 pub read-body-spec : {M : Type 1} → statement M
@@ -186,7 +186,7 @@ read-body-spec =
     read-pairs-requires
     unread-requires-3
     returns-3
-    free-requires
+    of-requires
     mul-t25
     add-t26
     returns-4)

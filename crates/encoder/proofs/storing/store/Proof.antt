@@ -7,8 +7,8 @@ use native.Mathlib.Omega.{arith}
 use lib.ListN.{length, take}
 use borrow.Author.Needs.{needs}
 use Rattle.pieces.proofs.SoundPieces.{files-low, free-low, free-places}
-use Rattle.free_pieces.proofs.Arrays.{length-of-mapped}
-use Rattle.free_pieces.proofs.EachItem.{each-taken}
+use Rattle.piece_lists.proofs.Arrays.{length-of-mapped}
+use Rattle.piece_lists.proofs.EachItem.{each-taken}
 use Rattle.table.specs.Tables.{fileOf, filesOf, layoutOf}
 use Rattle.table.specs.declared.Entry.{Entry}
 use Rattle.catalogue.specs.Encoding.{entriesBytes, entryBytes}

@@ -4,9 +4,9 @@ use Prim.Native.Nat.{_-_, _≤_}
 use native.Mathlib.Omega.{arith}
 use lib.ListN.{length, take}
 use borrow.Author.Needs.{needs}
-use Rattle.free_pieces.proofs.Arrays.{length-of-mapped}
-use Rattle.free_pieces.proofs.EachItem.{each-taken}
-use Rattle.free_pieces.specs.Free.{listOf}
+use Rattle.piece_lists.proofs.Arrays.{length-of-mapped}
+use Rattle.piece_lists.proofs.EachItem.{each-taken}
+use Rattle.piece_lists.specs.Few.{listOf}
 use Rattle.catalogue.specs.Encoding.{pairBytes, pairsBytes}
 use Rattle.encoder.specs.Store.{Written}
 use Rattle.encoder.proofs.StoreLists.{list-more, list-none, list-room}

@@ -5,8 +5,9 @@ use native.Mathlib.Omega.{arith}
 use lib.ListN.{length, length-set, take}
 use lib.Seq.{length-take-le}
 use borrow.Author.Needs.{needs}
-use Rattle.free_pieces.specs.Free.{freeOf, listOf, freePlaces, piecePlaces}
-use Rattle.free_pieces.proofs.Arrays.{copied-more, length-of-mapped}
+use Rattle.piece_lists.specs.Few.{listOf, piecePlaces}
+use Rattle.free_pieces.specs.Free.{freeOf, freePlaces}
+use Rattle.piece_lists.proofs.Arrays.{copied-more, length-of-mapped}
 use Rattle.free_pieces.proofs.Free.few.Statement.{statement}
 use Rattle.free_pieces.proofs.Free.few.Tie as tie
 

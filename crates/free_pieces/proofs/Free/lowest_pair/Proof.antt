@@ -11,7 +11,7 @@ use lib.Seq.{length-take-le}
 use borrow.Author.Needs.{needs}
 use Rattle.layout.proofs.Splitting.{countOf}
 use Rattle.section.specs.Sections.{section}
-use Rattle.free_pieces.proofs.Arrays.{length-of-mapped}
+use Rattle.piece_lists.proofs.Arrays.{length-of-mapped}
 use Rattle.free_pieces.proofs.Draws.{pair-end, pair-here, pair-on}
 use Rattle.free_pieces.proofs.Fewer.{count-other, count-same, few-pair}
 use Rattle.free_pieces.specs.Free.{freeOf, lowestPair, pairOf}

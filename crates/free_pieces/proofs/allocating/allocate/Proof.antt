@@ -12,7 +12,7 @@ use Rattle.section.specs.Limits.{greatestHeight}
 use Rattle.free_pieces.proofs.LaidMore.{laid-failed, laid-more}
 use Rattle.free_pieces.proofs.PiecesLaid.{onward, onward-end, onward-failed, onward-skip, onward-start}
 use Rattle.free_pieces.proofs.PiecesLaid.{onward-take, stocked-with}
-use Rattle.free_pieces.specs.Free.{piecePlaces}
+use Rattle.piece_lists.specs.Few.{piecePlaces}
 use Rattle.free_pieces.specs.Taking.{Stocked}
 use Rattle.free_pieces.specs.declared.Laid.{Laid}
 use Rattle.free_pieces.proofs.allocating.allocate.Statement.{statement}

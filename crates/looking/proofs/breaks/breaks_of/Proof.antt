@@ -2,8 +2,8 @@
 use mathlib.Core.Path.{_≡_}
 use lib.ListN.{length}
 use borrow.Author.Needs.{needs}
-use Rattle.free_pieces.proofs.Arrays.{length-of-mapped}
-use Rattle.free_pieces.specs.Free.{piecePlaces}
+use Rattle.piece_lists.proofs.Arrays.{length-of-mapped}
+use Rattle.piece_lists.specs.Few.{piecePlaces}
 use Rattle.looking.proofs.LookJudged.{breaks-count, some-piece}
 use Rattle.looking.proofs.breaks.breaks_of.Statement.{statement}
 use Rattle.looking.proofs.breaks.breaks_of.Tie as tie

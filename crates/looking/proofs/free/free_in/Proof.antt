@@ -8,8 +8,8 @@ use borrow.Author.Needs.{needs}
 use Rattle.layout.specs.Layout.{blockCount}
 use Rattle.section.specs.Limits.{greatestDisk}
 use Rattle.section.specs.Sections.{section}
-use Rattle.free_pieces.proofs.Arrays.{length-of-mapped}
-use Rattle.free_pieces.proofs.EachItem.{each-taken}
+use Rattle.piece_lists.proofs.Arrays.{length-of-mapped}
+use Rattle.piece_lists.proofs.EachItem.{each-taken}
 use Rattle.free_pieces.specs.Free.{freeOf, freePlaces}
 use Rattle.pieces.proofs.PieceCounts.{count-end, count-here}
 use Rattle.pieces.proofs.SoundPieces.{free-low}

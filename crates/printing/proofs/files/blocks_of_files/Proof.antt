@@ -8,8 +8,8 @@ use borrow.Author.Needs.{needs}
 use lib.ListN.{drop, length, take}
 use Rattle.layout.specs.Layout.{fileBlocks}
 use Rattle.layout.specs.Lists.{sumOf}
-use Rattle.free_pieces.proofs.Arrays.{ahead, behind, length-of-mapped}
-use Rattle.free_pieces.proofs.EachItem.{each-taken}
+use Rattle.piece_lists.proofs.Arrays.{ahead, behind, length-of-mapped}
+use Rattle.piece_lists.proofs.EachItem.{each-taken}
 use Rattle.table.specs.Files.{noEntry}
 use Rattle.table.specs.Tables.{fileOf, filesOf}
 use Rattle.pieces.specs.Pieces.{LowEntry}

@@ -3,7 +3,7 @@ use native.Mathlib.Omega.{arith}
 use borrow.Author.Needs.{needs}
 use Rattle.layout.proofs.Lists.{each-sort}
 use Rattle.layout.specs.Layout.{byFirst}
-use Rattle.free_pieces.specs.Free.{listOf}
+use Rattle.piece_lists.specs.Few.{listOf}
 use Rattle.table.specs.Tables.{fileOf}
 use Rattle.printing.proofs.FileLines.{file-pairs-room, file-room, file-written}
 use Rattle.printing.proofs.files.write_file.Statement.{statement}

@@ -7,8 +7,8 @@ use native.Mathlib.Omega.{arith}
 use borrow.Author.Needs.{needs}
 use lib.ListN.{drop, getD, length, take}
 use Rattle.manager.specs.Printing.{allFileLines, fileLines}
-use Rattle.free_pieces.proofs.Arrays.{length-of-mapped}
-use Rattle.free_pieces.proofs.EachItem.{each-taken}
+use Rattle.piece_lists.proofs.Arrays.{length-of-mapped}
+use Rattle.piece_lists.proofs.EachItem.{each-taken}
 use Rattle.table.specs.Files.{noEntry}
 use Rattle.table.specs.Tables.{fileOf, filesOf}
 use Rattle.pieces.specs.Pieces.{LowEntry}

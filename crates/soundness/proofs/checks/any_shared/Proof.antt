@@ -6,7 +6,7 @@ use native.Mathlib.Omega.{arith}
 use lib.ListN.{length}
 use borrow.Author.Needs.{needs}
 use Rattle.soundness.specs.Checking.{Masks, apart, gatheredPlaces, piecesOf}
-use Rattle.free_pieces.proofs.Arrays.{length-of-mapped}
+use Rattle.piece_lists.proofs.Arrays.{length-of-mapped}
 use Rattle.soundness.proofs.Points.{Row, Rows, blank, pair-fails, row-more, row-start}
 use Rattle.soundness.proofs.Points.{rows-end, rows-more, rows-none}
 use Rattle.soundness.proofs.checks.any_shared.Statement.{statement}

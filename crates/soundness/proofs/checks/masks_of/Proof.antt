@@ -12,7 +12,7 @@ use Rattle.section.specs.Sections.{IsMask}
 use Rattle.catalogue.specs.Version.{version1}
 use Rattle.catalogue.specs.Reading.{soundPiece}
 use Rattle.soundness.specs.Checking.{gatheredPlaces, piecesOf}
-use Rattle.free_pieces.proofs.Arrays.{length-of-mapped}
+use Rattle.piece_lists.proofs.Arrays.{length-of-mapped}
 use Rattle.soundness.proofs.Points.{all-hold, below-set, blank, false-true, one-fails}
 use Rattle.soundness.proofs.Tested.{piece-aligned, piece-low}
 use Rattle.soundness.proofs.checks.masks_of.Statement.{statement}

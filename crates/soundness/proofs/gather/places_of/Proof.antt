@@ -2,8 +2,8 @@
 use mathlib.Core.Path.{_≡_, refl}
 use lib.ListN.{length}
 use borrow.Author.Needs.{needs}
-use Rattle.free_pieces.specs.Free.{piecePlaces}
-use Rattle.free_pieces.proofs.Arrays.{length-of-mapped}
+use Rattle.piece_lists.specs.Few.{piecePlaces}
+use Rattle.piece_lists.proofs.Arrays.{length-of-mapped}
 use Rattle.soundness.proofs.gather.places_of.Statement.{statement}
 use Rattle.soundness.proofs.gather.places_of.Tie as tie
 

@@ -7,8 +7,8 @@ use lib.ListN.{getD, length}
 use borrow.Author.Needs.{needs}
 use Rattle.section.specs.Sections.{Addressable, movedInto, section}
 use Rattle.section.specs.declared.Section.{Section}
-use Rattle.free_pieces.proofs.Arrays.{length-of-mapped}
-use Rattle.free_pieces.proofs.EachItem.{each-taken}
+use Rattle.piece_lists.proofs.Arrays.{length-of-mapped}
+use Rattle.piece_lists.proofs.EachItem.{each-taken}
 use Rattle.table.proofs.MapFirst.{mapFirst-at, mapFirst-more, mapFirst-none}
 use Rattle.table.specs.Moves.{mapFirst}
 use Rattle.table.proofs.Entry.moved.Statement.{statement}

@@ -6,10 +6,10 @@ use native.Mathlib.Omega.{arith}
 use lib.ListN.{drop, length, take}
 use borrow.Author.Needs.{needs}
 use Rattle.section.specs.Sections.{Addressable, section}
-use Rattle.free_pieces.proofs.Arrays.{length-of-mapped, place-end, place-here, place-on}
-use Rattle.free_pieces.proofs.EachItem.{each-taken}
+use Rattle.piece_lists.proofs.Arrays.{length-of-mapped, place-end, place-here, place-on}
+use Rattle.piece_lists.proofs.EachItem.{each-taken}
 use Rattle.table.specs.Moves.{liesIn}
-use Rattle.free_pieces.specs.Places.{firstPlace}
+use Rattle.piece_lists.specs.Places.{firstPlace}
 use Rattle.table.proofs.Entry.place_inside.Statement.{statement}
 use Rattle.table.proofs.Entry.place_inside.Tie as tie
 

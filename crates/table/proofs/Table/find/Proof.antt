@@ -5,10 +5,10 @@ use native.Mathlib.Omega.{arith}
 use lib.ListN.{drop, length, take}
 use borrow.Author.Needs.{needs}
 use borrow.Author.Tests.{eq-eqb, ne-eqb}
-use Rattle.free_pieces.proofs.Arrays.{length-of-mapped, place-end, place-here, place-on}
+use Rattle.piece_lists.proofs.Arrays.{length-of-mapped, place-end, place-here, place-on}
 use Rattle.table.proofs.FileLists.{entryHas, place-map}
 use Rattle.table.specs.Files.{hasId, noEntry}
-use Rattle.free_pieces.specs.Places.{firstPlace}
+use Rattle.piece_lists.specs.Places.{firstPlace}
 use Rattle.table.specs.Tables.{fileOf, filesOf}
 use Rattle.table.proofs.Table.find.Statement.{statement}
 use Rattle.table.proofs.Table.find.Tie as tie

@@ -7,9 +7,9 @@ use native.Mathlib.Omega.{arith}
 use lib.ListN.{drop, length, length-set, take}
 use borrow.Author.Needs.{needs}
 use Rattle.layout.specs.Lists.{Each}
-use Rattle.free_pieces.proofs.Arrays.{length-of-mapped, withoutAt-end, withoutAt-more, withoutAt-start}
-use Rattle.free_pieces.proofs.EachItem.{each-get, each-set}
-use Rattle.free_pieces.specs.Places.{withoutAt}
+use Rattle.piece_lists.proofs.Arrays.{length-of-mapped, withoutAt-end, withoutAt-more, withoutAt-start}
+use Rattle.piece_lists.proofs.EachItem.{each-get, each-set}
+use Rattle.piece_lists.specs.Places.{withoutAt}
 use Rattle.table.proofs.Released.{layout-released}
 use Rattle.table.specs.Files.{noEntry}
 use Rattle.table.specs.Tables.{InPlaces}

@@ -9,10 +9,10 @@ use lib.ListN.{drop, length, length-set, take}
 use borrow.Author.Needs.{needs}
 use borrow.Author.Tests.{le-leb, lt-leb}
 use Rattle.layout.specs.Lists.{Each}
-use Rattle.free_pieces.proofs.Arrays.{length-of-mapped, place-end, place-here, place-on}
-use Rattle.free_pieces.proofs.Arrays.{withAt-end, withAt-more, withAt-start}
-use Rattle.free_pieces.proofs.EachItem.{each-get, each-set}
-use Rattle.free_pieces.specs.Places.{firstPlace, withAt}
+use Rattle.piece_lists.proofs.Arrays.{length-of-mapped, place-end, place-here, place-on}
+use Rattle.piece_lists.proofs.Arrays.{withAt-end, withAt-more, withAt-start}
+use Rattle.piece_lists.proofs.EachItem.{each-get, each-set}
+use Rattle.piece_lists.specs.Places.{firstPlace, withAt}
 use Rattle.table.proofs.FileLists.{layout-added}
 use Rattle.table.specs.Files.{noEntry, noLowerId}
 use Rattle.table.specs.Tables.{InPlaces, layoutOf}

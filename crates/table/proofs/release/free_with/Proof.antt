@@ -7,7 +7,7 @@ use lib.Seq.{length-take-le}
 use borrow.Author.Needs.{needs}
 use Rattle.layout.specs.Removing.{insertAll}
 use Rattle.section.specs.Sections.{section}
-use Rattle.free_pieces.proofs.Arrays.{length-of-mapped}
+use Rattle.piece_lists.proofs.Arrays.{length-of-mapped}
 use Rattle.table.proofs.FreeLists.{all-more, all-none}
 use Rattle.free_pieces.specs.Free.{freeOf}
 use Rattle.table.proofs.release.free_with.Statement.{statement}

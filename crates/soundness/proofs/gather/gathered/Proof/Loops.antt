@@ -9,12 +9,13 @@ use borrow.Author.Needs.{needs}
 use Rattle.section.specs.Limits.{mostFiles}
 use Rattle.layout.specs.Lists.{Each}
 use Rattle.layout.specs.Layout.{filePieces}
-use Rattle.free_pieces.specs.Free.{freePlaces, piecePlaces}
+use Rattle.piece_lists.specs.Few.{piecePlaces}
+use Rattle.free_pieces.specs.Free.{freePlaces}
 use Rattle.table.specs.Tables.{InPlaces}
-use Rattle.free_pieces.proofs.EachItem.{each-get}
+use Rattle.piece_lists.proofs.EachItem.{each-get}
 use Rattle.soundness.specs.Checking.{gatheredPlaces}
 use Rattle.soundness.proofs.Joined.{filesTo}
-use Rattle.free_pieces.proofs.Arrays.{length-of-mapped}
+use Rattle.piece_lists.proofs.Arrays.{length-of-mapped}
 use Rattle.soundness.proofs.Joined.{blankEntry, file-pieces-more, join-more, no-file-pieces}
 use Rattle.soundness.proofs.gather.gathered.Tie as tie
 

@@ -1,22 +1,23 @@
--- `Pieces::free` meets its contract: after `j` turns the first `j` places hold the first `j` pieces. Assumes nothing.
+-- `Free::of` meets its contract: after `j` turns the first `j` places hold the first `j` pieces. Assumes nothing.
 use mathlib.Core.Path.{_≡_, refl}
 use Prim.Native.Nat.{_-_, _≤_}
 use native.Mathlib.Omega.{arith}
 use lib.ListN.{length, length-set, take}
 use lib.Seq.{length-take-le}
 use borrow.Author.Needs.{needs}
-use Rattle.free_pieces.specs.Free.{freeOf, listOf, freePlaces, piecePlaces}
-use Rattle.free_pieces.proofs.Arrays.{copied-more, length-of-mapped}
-use Rattle.free_pieces.proofs.Pieces.free.Statement.{statement}
-use Rattle.free_pieces.proofs.Pieces.free.Tie as tie
+use Rattle.piece_lists.specs.Few.{listOf, piecePlaces}
+use Rattle.free_pieces.specs.Free.{freeOf, freePlaces}
+use Rattle.piece_lists.proofs.Arrays.{copied-more, length-of-mapped}
+use Rattle.free_pieces.proofs.Free.of.Statement.{statement}
+use Rattle.free_pieces.proofs.Free.of.Tie as tie
 
 abbrev Inv-loop : tie.InvT-loop
-Inv-loop self count items₀ j₀ items j =
-    (count ≡ self .count) × (count ≤ piecePlaces) × (length (self .items) ≡ piecePlaces) × (length items ≡ freePlaces)
-    × (j ≤ count) × (take j items ≡ take j (self .items))
+Inv-loop list count items₀ j₀ items j =
+    (count ≡ list .count) × (count ≤ piecePlaces) × (length (list .items) ≡ piecePlaces) × (length items ≡ freePlaces)
+    × (j ≤ count) × (take j items ≡ take j (list .items))
 
 abbrev μ-loop : tie.MeasureT-loop
-μ-loop self count items₀ j₀ items j = count - j
+μ-loop list count items₀ j₀ items j = count - j
 
 loop-holds : tie.Need-loop-holds Inv-loop μ-loop
 loop-holds c = (refl, c .pre, search (needs, length-of-mapped), refl, omega arith, refl)
@@ -64,8 +65,8 @@ returns c =
       exact = length-take-le (p .count) (p .items) (omega (arith, v .0, v .1, v .2));
     }
 
-pub free-spec : {M : Type 1} → statement M
-free-spec =
+pub of-spec : {M : Type 1} → statement M
+of-spec =
     tie.close
     (tie.spec
     Inv-loop

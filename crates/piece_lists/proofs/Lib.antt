@@ -1,0 +1,4 @@
+-- Laws of arrays and of insertion by an order, and the proofs of the functions.
+pub mod Arrays
+pub mod EachItem
+pub mod Insertion

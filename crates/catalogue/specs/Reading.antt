@@ -17,7 +17,7 @@ use Rattle.section.specs.Sections.{isOnDisk, lengthOf, sharesBlock}
 use Rattle.layout.specs.Lists.{sumOf, sortBy}
 use Rattle.layout.specs.Layout.{File, Layout, allPieces, blockCount, byLength, fileBlocks, freeBlocks}
 use Rattle.layout.specs.Sound.{greatestId}
-use Rattle.catalogue.specs.Version.{Version, greatestBlocks}
+use Rattle.catalogue.specs.Version.{Version}
 use Rattle.catalogue.specs.Encoding.{byteValues, shortField}
 
 -- ---- tests on lists

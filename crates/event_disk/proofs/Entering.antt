@@ -1,6 +1,6 @@
 -- What is known once a catalogue was opened, and a changed table stored: the outcome of the call. Assumes nothing.
-use mathlib.Core.Bool.{Bool, false, not, true}
-use mathlib.Core.List.{List, _∷_}
+use mathlib.Core.Bool.{Bool, false, true}
+use mathlib.Core.List.{List}
 use mathlib.Core.Path.{_∙_, _≡_, ap, refl, sym}
 use Prim.Native.Nat.{ℕ}
 use native.Mathlib.Omega.{arith}
@@ -13,18 +13,17 @@ use Rattle.calls.specs.Changing.{Makes}
 use Rattle.calls.specs.declared.Changed.{Changed}
 use Rattle.catalogue.proofs.Reading.{read-sound}
 use Rattle.catalogue.proofs.Roomy.{version1-roomy}
-use Rattle.catalogue.specs.Reading.{Reading, readCatalogue, sound, unsound}
+use Rattle.catalogue.specs.Reading.{readCatalogue, sound}
 use Rattle.catalogue.specs.Version.{version1}
 use Rattle.soundness.specs.Counts.{Exact}
 use Rattle.decoder.proofs.Judging.{reading-none, reading-sound}
 use Rattle.decoder.specs.Loading.{readingOf}
 use Rattle.decoder.specs.declared.Loaded.{Loaded}
-use Rattle.layout.specs.Layout.{Layout}
 use Rattle.manager.proofs.OnRead.{not-sound, wrong-length}
 use Rattle.manager.specs.Conditions.{Outcome, outcome, refused}
 use Rattle.table.specs.Tables.{layoutOf}
 use Rattle.table.specs.declared.Table.{Table}
-use Rattle.event_disk.specs.Opening.{Entered, Opens, Shut, Storable, Stores}
+use Rattle.event_disk.specs.Opening.{Entered, Opens, Shut, Stores}
 
 -- ---- opening
 

@@ -1,5 +1,5 @@
 -- The outcome of a format: each refusal by its condition, and the fresh catalogue, which is sound. Assumes nothing.
-use mathlib.Core.Bool.{_||_, false, not, true}
+use mathlib.Core.Bool.{_||_, not, true}
 use mathlib.Core.List.{List, [], _∷_}
 use mathlib.Core.Path.{_∙_, _≡_, ap, ap₂, refl, subst, sym}
 use Prim.Native.Nat.{_%_, _/_, _<_, _≤_, suc, zero, ℕ}
@@ -16,7 +16,7 @@ use Rattle.layout.proofs.Soundness.{sums-sound}
 use Rattle.layout.specs.Layout.{Layout, freshLayout}
 use Rattle.layout.specs.Sound.{Sound}
 use Rattle.manager.proofs.Judging.{passes, refuses-by}
-use Rattle.manager.specs.Conditions.{Outcome, allowed, answered, condition, firstRefusal, formatConditions, noDisk}
+use Rattle.manager.specs.Conditions.{Outcome, answered, condition, firstRefusal, formatConditions, noDisk}
 use Rattle.manager.specs.Conditions.{outcome, refusal, refused, unlessRefused, wrongCatalogue}
 use Rattle.manager.specs.Disk.{pageCount}
 use Rattle.manager.specs.Outcomes.{formatOutcome}

@@ -1,7 +1,7 @@
 -- A removal that is answered copies at most the carries of f + n. Assumes nothing.
 use mathlib.Core.List.{List, []}
 use mathlib.Core.Path.{_∙_, _≡_, ap, sym}
-use Prim.Native.Nat.{_≤_, ℕ}
+use Prim.Native.Nat.{ℕ}
 use native.Mathlib.Omega.{arith}
 use lib.ListN.{length}
 use Rattle.catalogue.proofs.Reading.{read-sound}
@@ -12,11 +12,10 @@ use Rattle.event_disk.specs.Limit.{WithinCarries}
 use Rattle.layout.proofs.Finding.{found-find}
 use Rattle.layout.proofs.Removed.{removal-keeps}
 use Rattle.layout.proofs.Soundness.{sound-sums}
-use Rattle.layout.specs.Carries.{carries}
-use Rattle.layout.specs.Layout.{File, Layout, fileBlocks, findFile, found, freeBlocks}
+use Rattle.layout.specs.Layout.{File, Layout, findFile, found}
 use Rattle.layout.specs.Removing.{copiesOf, removal}
 use Rattle.manager.proofs.Judging.{answered-allowed}
-use Rattle.manager.specs.Conditions.{Reply, allowed, answered, firstRefusal, removeConditions, unlessRefused}
+use Rattle.manager.specs.Conditions.{Reply, answered, firstRefusal, removeConditions, unlessRefused}
 use Rattle.manager.specs.Outcomes.{doRemove, removeFound, removeOutcome}
 
 module _ (cat : List ℕ) (i : ℕ) (d : List ℕ) where

@@ -2,11 +2,10 @@
 use mathlib.Core.Bool.{Bool, false, true}
 use mathlib.Core.List.{List, [], _++_, _∷_}
 use mathlib.Core.Path.{_∙_, _≡_, ap, ap₂, refl, subst, sym}
-use Prim.Native.Nat.{_+_, _-_, _<_, _≤_, suc, zero, ℕ}
+use Prim.Native.Nat.{_+_, _-_, _≤_, suc, zero, ℕ}
 use native.Mathlib.Numerals.{add-one}
 use native.Mathlib.Omega.{arith}
-use lib.ListN.{length, replicate, set, take}
-use lib.Seq.{take-suc-set}
+use lib.ListN.{replicate}
 use Rattle.layout.specs.Adding.{Allocated, Taken, allocate, allocated, nothing, takePiece, taken, tooFew, withPiece}
 use Rattle.layout.specs.Layout.{digit}
 use Rattle.section.specs.Limits.{greatestHeight}

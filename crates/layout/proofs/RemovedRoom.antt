@@ -15,7 +15,7 @@ use Rattle.layout.proofs.Removed.{removal-keeps}
 use Rattle.layout.proofs.SoundSums.{RisingIds, SoundSums, free-size, pieces-size}
 use Rattle.layout.proofs.Zipped.{Zipped, both, ends}
 use Rattle.layout.specs.Layout.{File, Layout, fileBlocks, findFile, freeBlocks, hasFile}
-use Rattle.layout.specs.Lists.{Each, Pairwise, done, more, next, sumOf}
+use Rattle.layout.specs.Lists.{Each, more, next, sumOf}
 use Rattle.layout.specs.Removing.{Copy, layoutAfter, release, removal}
 
 -- ---- files that were moved

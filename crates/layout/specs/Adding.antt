@@ -5,7 +5,7 @@ use Prim.Native.Nat.{ℕ, zero, suc, _+_, _^_}
 use Rattle.section.specs.declared.Section.{Section}
 use Rattle.section.specs.Sections.{section}
 use Rattle.layout.specs.Lists.{insertBy}
-use Rattle.layout.specs.Layout.{File, Layout, hasHeight, byFirst, byId, digit}
+use Rattle.layout.specs.Layout.{Layout, hasHeight, byFirst, byId, digit}
 
 -- what taking finds: a section and those that are left, or nothing
 pub data Taken : Type 0 where

@@ -4,7 +4,7 @@ use mathlib.Core.List.{List, [], _∷_, _++_}
 use Prim.Native.Nat.{ℕ, zero, suc}
 use lib.ListN.{length}
 use Rattle.layout.specs.Layout.{Layout}
-use Rattle.layout.specs.Removing.{Merge, MergePair, pair, fewer, mergePair, merge, layoutAfter}
+use Rattle.layout.specs.Removing.{Merge, pair, fewer, mergePair, merge, layoutAfter}
 
 -- while height h has two or more free pieces, the two lowest are merged; at most n times
 unfoldable pub mergesAt : ℕ → ℕ → Layout → List Merge

@@ -1,14 +1,14 @@
 -- Removing: the file's pieces become free, and while a height has two free pieces the lowest such height is merged.
 -- A removal is the list of its merges, each with its block copies and the layout that it leaves. Definitions only.
-use mathlib.Core.Bool.{Bool, true, false, cond}
+use mathlib.Core.Bool.{true, false, cond}
 use mathlib.Core.List.{List, [], _∷_, _++_, map}
-use Prim.Native.Nat.{ℕ, zero, suc, _+_, _^_}
+use Prim.Native.Nat.{ℕ, zero, suc, _+_}
 use lib.Dec.{eqb}
 use lib.ListN.{length}
 use Rattle.section.specs.declared.Section.{Section}
-use Rattle.section.specs.Sections.{section, lengthOf, buddyOf, parentOf, movedInto}
+use Rattle.section.specs.Sections.{lengthOf, buddyOf, parentOf, movedInto}
 use Rattle.layout.specs.Lists.{insertBy, sortBy}
-use Rattle.layout.specs.Layout.{File, Layout, hasHeight, byFirst}
+use Rattle.layout.specs.Layout.{File, Layout, byFirst}
 use Rattle.layout.specs.Adding.{Taken, taken, nothing, takeOfHeight}
 
 -- ---- block copies

@@ -1,6 +1,6 @@
 -- The text for an input, by its length and by what was loaded from it; one byte more than a catalogue has is
 -- enough of it. Assumes nothing.
-use mathlib.Core.Bool.{Bool, false, not, true}
+use mathlib.Core.Bool.{false, not, true}
 use mathlib.Core.List.{List}
 use mathlib.Core.Logic.{inl, inr}
 use mathlib.Core.Path.{_∙_, _≡_, ap, sym}
@@ -11,7 +11,7 @@ use lib.Seq.{length-take-le, take-all}
 use borrow.Author.Tests.{eq-eqb, ne-eqb, not-false, not-true}
 use Rattle.catalogue.proofs.Reading.{read-sound}
 use Rattle.catalogue.proofs.Roomy.{version1-roomy}
-use Rattle.catalogue.specs.Reading.{Reading, readCatalogue, sound, unsound}
+use Rattle.catalogue.specs.Reading.{readCatalogue, sound}
 use Rattle.catalogue.specs.Version.{Version, version1}
 use Rattle.decoder.proofs.Judging.{reading-none, reading-sound}
 use Rattle.decoder.specs.Loading.{readingOf}

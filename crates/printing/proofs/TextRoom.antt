@@ -8,7 +8,7 @@ use lib.ListN.{length, length-append}
 use Rattle.layout.proofs.Lists.{length-sort}
 use Rattle.layout.specs.Layout.{File, Layout, byFirst, fileBlocks, freeBlocks}
 use Rattle.layout.specs.Lists.{Each, done, more, sortBy}
-use Rattle.manager.specs.Printing.{allFileLines, blocksWord, decimal, fileLines, fileWord, firstLine, freeWord}
+use Rattle.manager.specs.Printing.{allFileLines, blocksWord, fileLines, fileWord, firstLine, freeWord}
 use Rattle.manager.specs.Printing.{layoutText, pairLine, pairLines, refusalText, space}
 use Rattle.section.specs.Sections.{lengthOf}
 use Rattle.section.specs.declared.Section.{Section}

@@ -1,25 +1,13 @@
 -- What the tests on sections say, as facts on block numbers. Assumes nothing.
-use mathlib.Core.Path.{_≡_, refl, sym, ap, _∙_}
-use mathlib.Core.Bool.{Bool, true, false, _&&_}
+use mathlib.Core.Path.{_≡_}
+use mathlib.Core.Bool.{true, false}
 use mathlib.Core.Logic.{_↔_, _⊎_, inl, inr, ⊎-elim}
-use Prim.Native.Nat.{ℕ, _+_, _*_, _%_, _^_, _<_, _≤_}
+use Prim.Native.Nat.{ℕ, _+_, _%_, _≤_}
 use native.Mathlib.Omega.{arith}
-use lib.Dec.{eqb, ltb, leb}
+use lib.Dec.{ltb, leb}
 use lib.Pow.{pow-pos}
-use borrow.Author.Tests.{eqb-true, leb-true, ltb-true, ltb-false, eq-eqb, le-leb, lt-ltb, le-ltb}
-use Rattle.section.specs.Sections.{
-  Among,
-  Apart,
-  Within,
-  endOf,
-  lengthOf,
-  buddyFirst,
-  isAligned,
-  isOnDisk,
-  hasBuddy,
-  sharesBlock,
-  isInside,
-}
+use borrow.Author.Tests.{eqb-true, leb-true, ltb-true, ltb-false, eq-eqb, le-leb, le-ltb}
+use Rattle.section.specs.Sections.{Among, Apart, Within, endOf, lengthOf, buddyFirst, isAligned, isOnDisk, hasBuddy, sharesBlock, isInside}
 use Rattle.section.proofs.Booleans.{and-true, and-false, false-and}
 use Rattle.section.proofs.Buddies.{buddy-aligned}
 use Rattle.section.proofs.Multiples.{below-or-not}

@@ -5,7 +5,7 @@ use mathlib.Core.Logic.{inl, inr}
 use Prim.Native.Nat.{ℕ, _+_, _-_, _*_, _/_, _%_, _^_, _<_, _≤_}
 use native.Mathlib.Nat.{add-mul, add-zero, mod-eq-of-lt, mod-lt, one-mul, zero-lt-suc}
 use native.Mathlib.Omega.{arith}
-use lib.Bits.{and-le-l, and-le-r, and-mask, bitAnd, bitOr, bitXor, differ, or-add-and, or-comm, xor-add-and}
+use lib.Bits.{and-le-l, and-le-r, and-mask, bitOr, bitXor, differ, or-add-and, or-comm, xor-add-and}
 use lib.Bits.{xor-block, xor-comm, xor-self, xor-shr, xor-step, xor-zero-r}
 use lib.Dec.{leb, ltb}
 use lib.Pow.{high, le-ones, pow-mono, pow-pos, pow-lt, shr-lt, split}

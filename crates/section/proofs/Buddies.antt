@@ -1,5 +1,5 @@
 -- A section and its buddy are the halves of their parent; every other law of buddies follows. Assumes nothing.
-use mathlib.Core.Path.{_≡_, sym, ap, _∙_}
+use mathlib.Core.Path.{_≡_, ap, _∙_}
 use mathlib.Core.Logic.{_⊎_, inl, inr, ⊎-elim, _↔_}
 use Prim.Native.Nat.{ℕ, suc, _+_, _-_, _*_, _/_, _%_, _^_, _<_, _≤_}
 use native.Mathlib.Nat.{div-add-mod', mod-lt, mod-self, mul-mod-left, one-mul, zero-lt-suc, zero-mul}
@@ -8,14 +8,7 @@ use lib.Arith.{digits-div, mod-mul}
 use lib.Pow.{pow-pos}
 use borrow.Author.Tests.{eq-eqb, ne-eqb}
 use Rattle.section.specs.Sections.{Among, Apart, Within, buddyFirst, parentFirst}
-use Rattle.section.proofs.Multiples.{
-  below-or-not,
-  multiple-whole,
-  multiple-gap,
-  multiple-sum,
-  length-double,
-  aligned-lower,
-}
+use Rattle.section.proofs.Multiples.{below-or-not, multiple-whole, multiple-gap, multiple-sum, length-double, aligned-lower}
 use Rattle.section.proofs.Nested.{meets-inside}
 
 -- a and b start the lower and the upper half, of n blocks each, of what starts at p, in one order or the other

@@ -4,7 +4,7 @@ use mathlib.Core.Logic.{_⊎_, inl, inr, ⊎-elim}
 use Prim.Native.Nat.{ℕ, _+_, _%_, _^_, _<_, _≤_}
 use native.Mathlib.Omega.{arith}
 use lib.Pow.{pow-pos}
-use Rattle.section.specs.Sections.{Among, Apart, Within}
+use Rattle.section.specs.Sections.{Apart, Within}
 use Rattle.section.proofs.Multiples.{below-or-not, multiple-gap, multiple-sum, length-multiple}
 use Rattle.section.proofs.Multiples.{aligned-lower}
 

@@ -7,7 +7,6 @@ use mathlib.Core.Bool.{Bool, cond, true, _&&_}
 use Prim.Native.Nat.{ℕ, suc, _+_, _-_, _*_, _/_, _%_, _^_, _<_, _≤_}
 use lib.Dec.{eqb, ltb, leb}
 use Rattle.section.specs.Heights.{NoHigher}
-use Rattle.section.specs.declared.Height.{Height}
 use Rattle.section.specs.declared.Section.{Section}
 
 -- ---- blocks in a row

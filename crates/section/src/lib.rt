@@ -5,7 +5,7 @@
 // gives: a height up to the greatest, which `of_length` answers, and a first block below 2^31, by `is_on_disk`;
 // `shares_block` asks for two aligned sections and their masks.
 ghost use mathlib.Core.Path.{_≡_};
-ghost use Prim.Native.Nat.{ℕ, _-_, _≤_};
+ghost use Prim.Native.Nat.{_-_};
 ghost use Rattle.section.specs.Limits.{blockSize, greatestDisk, catalogueSize, greatestHeight, mostFiles};
 ghost use Rattle.section.specs.Heights.{NoHigher, IsLength, heightOf};
 ghost use Rattle.section.specs.Sections.{Addressable, endOf, buddyOf, parentOf, isAligned, isOnDisk, hasBuddy};

@@ -1,7 +1,6 @@
 -- What a table stands for: a layout, its files by rising id. Definitions only.
-use mathlib.Core.Path.{_≡_}
 use mathlib.Core.List.{List, map}
-use Prim.Native.Nat.{ℕ, _≤_}
+use Prim.Native.Nat.{_≤_}
 use lib.ListN.{take}
 use Rattle.section.specs.declared.Section.{Section}
 use Rattle.section.specs.Limits.{mostFiles}

@@ -1,6 +1,6 @@
 // Releasing: a file leaves the table, and its pieces are free.
 ghost use mathlib.Core.Path.{_≡_};
-ghost use Prim.Native.Nat.{ℕ, _+_, _<_, _≤_};
+ghost use Prim.Native.Nat.{_+_, _<_, _≤_};
 ghost use Rattle.layout.specs.Removing.{insertAll};
 ghost use Rattle.piece_lists.specs.Places.{firstPlace};
 ghost use Rattle.piece_lists.specs.Few.{piecePlaces};

@@ -1,5 +1,5 @@
 -- `section_cases::check_lower_buddy` passes its check. Assumes nothing.
-use mathlib.Core.Path.{refl, ap, _∙_}
+use mathlib.Core.Path.{refl, ap}
 use borrow.Author.Needs.{needs}
 use borrow.Author.Tests.{eq-eqb}
 use native.Mathlib.Omega.{arith}

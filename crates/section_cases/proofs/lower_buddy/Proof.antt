@@ -1,6 +1,5 @@
 -- `section_cases::lower_buddy` meets its contract, by the laws of `section` alone. Assumes nothing.
-use mathlib.Core.Path.{_≡_, sym, ap, _∙_}
-use Prim.Native.Nat.{ℕ, _+_, _%_, _^_, _≤_}
+use mathlib.Core.Path.{ap, _∙_}
 use borrow.Author.Needs.{needs}
 use Rattle.section.proofs.Answers.{on-disk-iff, has-buddy-iff}
 use Rattle.section.proofs.Buddies.{buddy-of-lower}

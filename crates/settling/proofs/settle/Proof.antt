@@ -1,7 +1,7 @@
 -- `settling::settle` meets its contract: after each turn some of the merges are made, with their copies. The
 -- inner loop moves the files of the table for one merge. Assumes nothing.
 use mathlib.Core.Logic.{inl, inr}
-use mathlib.Core.Path.{_≡_, _∙_, ap, refl, subst, sym}
+use mathlib.Core.Path.{_≡_, ap, refl, subst, sym}
 use Prim.Native.Nat.{ℕ, _*_, _+_, _-_}
 use native.Mathlib.Omega.{arith}
 use lib.ListN.{length}
@@ -9,7 +9,7 @@ use borrow.Author.Needs.{needs}
 use Rattle.section.specs.Limits.{blockSize}
 use Rattle.piece_lists.proofs.Arrays.{length-of-mapped}
 use Rattle.free_pieces.specs.Free.{Pairs, freeOf, lowestPair}
-use Rattle.table.proofs.FilesMoving.{FilesMoving, moving-can, moving-end, moving-free, moving-kept, moving-long}
+use Rattle.table.proofs.FilesMoving.{FilesMoving, moving-can, moving-end, moving-kept, moving-long}
 use Rattle.table.specs.declared.Table.{Table}
 use Rattle.table.proofs.FilesMoving.{moving-more, moving-places, moving-start}
 use Rattle.settling.proofs.Settling.{Settling, settling-start, settling-ready, settling-copies, settling-more}

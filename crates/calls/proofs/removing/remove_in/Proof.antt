@@ -1,7 +1,5 @@
 -- `calls::removing::remove_in` meets its contract: the refusals by their conditions, then the release and the merges.
 -- Assumes nothing.
-use mathlib.Core.Path.{_≡_, _∙_, ap, sym}
-use native.Mathlib.Omega.{arith}
 use borrow.Author.Needs.{needs}
 use Rattle.calls.proofs.Refusing.{made-as}
 use Rattle.calls.proofs.Removals.{remove-can-settle, remove-id-zero, remove-makes, remove-missing}

@@ -1,5 +1,5 @@
 -- `section::Section::has_buddy` meets its contract. Assumes nothing.
-use mathlib.Core.Path.{sym, ap, _∙_}
+use mathlib.Core.Path.{ap, _∙_}
 use borrow.Author.Needs.{needs}
 use native.Mathlib.Omega.{arith}
 use Rattle.section.specs.Sections.{hasBuddy, isOnDisk}

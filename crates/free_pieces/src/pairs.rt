@@ -10,7 +10,7 @@ use section::Section;
 
 impl Free {
     // The two lowest pieces of height `h`, and the others.
-    pub fn lowest_two(self, h: u32) -> Pair
+    fn lowest_two(self, h: u32) -> Pair
         requires { ⌜ self .count ≤ freePlaces ⌝ }
         ensures { λ r. ⌜ Pairs (self .count) (mergePair h (freeOf self)) r ⌝ }
     {

@@ -1,5 +1,6 @@
 -- The laws of the calls' code, by subject.
 pub mod Refusing
+pub mod TakenOut
 pub mod Removals
 pub mod Placing
 pub mod AddChecks

@@ -1,5 +1,6 @@
 -- The laws of the calls, by subject, and the claim about every list of them.
 pub mod Blocks
+pub mod FirstPage
 pub mod Writing
 pub mod Lines
 pub mod Contents

@@ -1,9 +1,9 @@
--- `calls::removing::remove_in` meets its contract: the refusals by their conditions, then the release and the merges.
+-- `calls::removing::remove_in` meets its contract: the refusals by their conditions, then the file is taken out.
 -- Assumes nothing.
 use borrow.Author.Needs.{needs}
 use Rattle.calls.proofs.Refusing.{made-as}
-use Rattle.calls.proofs.Removals.{remove-can-settle, remove-id-zero, remove-makes, remove-missing}
-use Rattle.calls.proofs.Removals.{remove-place, remove-room, remove-wrong-disk}
+use Rattle.calls.proofs.Removals.{remove-can-take, remove-id-zero, remove-makes, remove-missing}
+use Rattle.calls.proofs.Removals.{remove-wrong-disk}
 use Rattle.calls.proofs.removing.remove_in.Statement.{statement}
 use Rattle.calls.proofs.removing.remove_in.Tie as tie
 
@@ -49,33 +49,12 @@ returns-3 c =
     (f .before .if2 .left)
     (f .find .result) (f .find .ensures .place) (b .if3 .taken))
 
-release-requires : tie.Need-release-requires
-release-requires c κs =
-    let b = c .before .before in
+take-out-requires : tie.Need-take-out-requires
+take-out-requires c κs =
+    let b = c .before .before .before in
     let a = b .before .before .before .before .before in
-    let ld = b .before .before .if1 .left in
-    let nz = b .before .if2 .left in
-    let lt = c .if3 .left in (
-      a .pre .sized,
-      (
-        (
-          lt,
-          remove-room (a .args .t) (a .pre) (a .args .id) (a .args .disk .now) ld nz (b .find .result)
-              (b .find .ensures .place) lt,
-        ),
-        remove-place (a .args .t) (a .pre) (a .args .id) (a .args .disk .now) ld nz (b .find .result)
-            (b .find .ensures .place) lt,
-      ),
-    )
-
-settle-requires : tie.Need-settle-requires
-settle-requires c κs =
-    let b = c .before .before .before .before in
-    let a = b .before .before .before .before .before in
-    remove-can-settle (a .args .t) (a .pre) (a .args .id) (a .args .disk .now) (b .before .before .if1 .left)
-    (b .before .if2 .left)
-    (b .find .result) (b .find .ensures .place) (c .before .before .if3 .left)
-    (c .before .release .result) (c .before .release .ensures)
+    remove-can-take (a .args .t) (a .pre) (a .args .id) (a .args .disk .now) (b .before .before .if1 .left)
+    (b .before .if2 .left) (b .find .result) (b .find .ensures .place) (c .before .if3 .left)
 
 same-length : tie.Need-same-length
 same-length c = search needs
@@ -83,13 +62,11 @@ same-length c = search needs
 returns-4 : tie.Need-returns-4
 returns-4 c =
     let s = c .before .before .before in
-    let b = s .before .before .before .before .before in
+    let b = s .before .before .before .before in
     let a = b .before .before .before .before .before in
     remove-makes (a .args .t) (a .pre) (a .args .id) (a .args .disk .now) (b .before .before .if1 .left)
-    (b .before .if2 .left)
-    (b .find .result) (b .find .ensures .place) (s .before .before .before .if3 .left)
-    (s .before .before .release .result) (s .before .before .release .ensures) _
-    (s .settle .result) (s .settle .ensures)
+    (b .before .if2 .left) (b .find .result) (b .find .ensures .place) (s .before .before .if3 .left) _
+    (s .take-out .result) (s .take-out .ensures)
 
 pub remove-in-spec : {M : Type 1} → statement M
 remove-in-spec =
@@ -104,7 +81,6 @@ remove-in-spec =
     find-requires
     kept-requires-3
     returns-3
-    release-requires
-    settle-requires
+    take-out-requires
     same-length
     returns-4)

@@ -55,10 +55,6 @@ module _ (K i : ℕ) (l : Layout) (f : File) (r : List File) (g : SoundSums K l)
   wo : withoutFile (f .id) (l .files) ≡ r
   wo = ap (λ z. withoutFile z (l .files)) (find-id x) ∙ find-without x
 
-  pub release-files : release f l .files ≡ r
-  unfolding release
-  release-files = wo
-
   abbrev free : List Section
   free = insertAll (f .pieces) (l .free)
 

@@ -3,7 +3,7 @@ use mathlib.Core.Bool.{Bool, false, true}
 use mathlib.Core.List.{List}
 use mathlib.Core.Path.{_∙_, _≡_, ap, refl, subst, sym}
 use Prim.Native.Nat.{_%_, _+_, _<_, _^_, _≤_, suc, zero, ℕ}
-use native.Mathlib.Nat.{lt-of-not-le, mod-self}
+use native.Mathlib.Nat.{mod-self}
 use native.Mathlib.Omega.{arith}
 use lib.Dec.{eqb}
 use borrow.Author.Tests.{eq-eqb, eqb-false, eqb-true, ne-eqb}
@@ -164,17 +164,3 @@ module _ (c : ℕ) where
   at-most-one-small h {l} e thin =
       subst (λ z. z < 2 ^ h) (sym (val-size 2 h e))
       (val-lt 2 (omega arith) (λ j. countOf j l) h (λ j. omega (arith, thin j)))
-
-  -- a section of height h can be had if the free blocks suffice; k heights above h are all there are
-  pub takePiece-fits : (k h : ℕ) (free : List Section) → Stock c free
-      → Each (λ (s : Section). s .height .value ≤ h + k) free → 2 ^ h ≤ sumOf lengthOf free
-      → (s : Section) × (r : List Section) × (takePiece k h free ≡ taken s r) × TakesPiece c h free s r
-  takePiece-fits k h free st top fits = go (takePiece k h free) refl (takePiece-is k h free st)
-    where
-      go : (t : Taken) → takePiece k h free ≡ t → TakesPieceOf c k h free t
-          → (s : Section) × (r : List Section) × (takePiece k h free ≡ taken s r) × TakesPiece c h free s r
-      go (taken s r) e u = (s, r, e, u)
-      go nothing e u = absurd (omega (
-        arith,
-        at-most-one-small h (each-imp (λ s p. lt-of-not-le (λ q. p .1 q (p .0))) (each-and top u)) (st .thin),
-      ))

@@ -117,8 +117,8 @@ pub fn is_sound(table: Table, sum: u32, free: u32) -> bool
     if !ids_rise(table) {
         return false;
     }
-    let unused = table.free;
-    let list = unused.few();
+    let pieces = table.free;
+    let list = pieces.few();
     if !in_order(list) {
         return false;
     }

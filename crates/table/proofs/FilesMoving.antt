@@ -6,7 +6,7 @@ use lib.ListN.{getD, length, set}
 use Rattle.section.specs.Sections.{Addressable, buddyOf}
 use Rattle.section.specs.declared.Section.{Section}
 use Rattle.piece_lists.proofs.EachItem.{each-get, each-taken}
-use Rattle.free_pieces.specs.Free.{Lists, freeOf}
+use Rattle.free_pieces.specs.Free.{Lists}
 use Rattle.piece_lists.specs.Places.{firstPlace}
 use Rattle.free_pieces.specs.declared.Pair.{Pair}
 use Rattle.table.proofs.MapFirst.{file-stays, length-mapFirst, mapFirst-at, mapFirst-kept, mapFirst-more}
@@ -109,7 +109,3 @@ module _ (p : Pair) (b u : Section) (m : ℕ) (t₀ t : Table) (i : ℕ) (g : Fi
 
   pub moving-long : length (t .files) ≡ 64
   moving-long = ap length (g .files) ∙ length-mapFirst (movedEntry b u) i (t₀ .files) ∙ g .long
-
--- what the free pieces of a merge ask for
-pub moving-free : (p : Pair) (t : Table) → Ready t p → CanMove (buddyOf (p .lower)) (p .upper) (freeOf (p .others))
-moving-free p t a = record { from = a .buddy; to = a .upper; pieces = a .others }

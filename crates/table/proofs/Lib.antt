@@ -9,4 +9,3 @@ pub mod FilesMoving
 pub mod NextPair
 pub mod ReadyPairs
 pub mod TableSteps
-pub mod OwnPlace

@@ -53,21 +53,3 @@ digits-most (suc k) n =
       digits-most k (n / 10),
     ))
     (below-or-not n 10)
-
--- a number below 10 ^ (j + 1) has at most j + 1 digits
-pub few-digits : (j k n : ℕ) → n < 10 ^ suc j → length (decimalIn k n) ≤ suc j
-unfolding decimalIn
-few-digits j zero n h = omega arith
-few-digits zero (suc k) n h = omega (arith, ap length (one-digit k n (omega arith)))
-few-digits (suc j) (suc k) n h =
-    ⊎-elim (λ l. omega (arith, ap length (one-digit k n l)))
-    (λ g. omega (
-      arith,
-      ap length (last-digit k n g) ∙ length-append (decimalIn k (n / 10)) ((digitZero + n % 10) ∷ []),
-      few-digits j k (n / 10) (fewer (suc j) n h),
-    ))
-    (below-or-not n 10)
-
--- every number of a catalogue, a count of blocks or an id, has at most six digits
-pub six-digits : (n : ℕ) → n < 2 ^ 17 → length (decimal n) ≤ 6
-six-digits n h = few-digits 5 10 n (omega arith)

@@ -5,10 +5,12 @@ use Rattle.soundness.proofs.order.follows.Statement.{statement}
 use Rattle.soundness.proofs.order.follows.Tie as tie
 
 returns : tie.Need-returns
-returns c = sym (turn-early _ _ (c .if1 .taken))
+returns c = let a = c .before .before .before .args in sym (turn-early (a .a) (a .b) (c .if1 .taken))
 
 returns-2 : tie.Need-returns-2
-returns-2 c = turn-late _ _ (c .before .before .before .before .if1 .left)
+returns-2 c =
+    let a = c .before .before .before .before .before .before .before .args in
+    turn-late (a .a) (a .b) (c .before .before .before .before .if1 .left)
 
 pub follows-spec : {M : Type 1} → statement M
 follows-spec = tie.close (tie.spec returns returns-2)

@@ -1,9 +1,10 @@
 /*
  * evdisk: the event disk manager of a volcano station.
  *
- * A disk is 1 to 4,096 blocks of 512 bytes and a catalogue is 4,096 bytes. Both belong to the caller, who lends them
- * for the time of a call and keeps their bytes in between. A call uses no memory of its own but the stack, and nothing
- * else: no files, no clock, no state.
+ * A disk is 1 to 4,096 blocks of 512 bytes with the small catalogue of 4,096 bytes, or 1 to 1,048,576 blocks with the
+ * large catalogue of 16,384 bytes. Format goes by the catalogue's length, and so does every call after it. Both belong
+ * to the caller, who lends them for the time of a call and keeps their bytes in between. A call uses no memory of its
+ * own but the stack, and nothing else: no files, no clock, no state.
  *
  * Every call gives back a number of 0 or more, the answer, or minus the number of a refusal. A refused call changes no
  * byte. Whatever the numbers and the bytes are, a call ends; pointers have to point to as many bytes as the length
@@ -11,9 +12,10 @@
  *
  * The first of these that holds is the refusal:
  *
- *    1  the catalogue buffer is not 4,096 bytes long
- *    2  the disk buffer is not 1 to 4,096 blocks of 512 bytes long (format alone)
- *    3  the catalogue is not sound
+ *    1  the catalogue buffer is neither 4,096 nor 16,384 bytes long
+ *    2  the disk buffer is not 1 to 4,096 blocks of 512 bytes long, or 1 to 1,048,576 with the large catalogue (format
+ *       alone)
+ *    3  the catalogue is not sound; a version that does not suit the catalogue's length is not
  *    4  the disk buffer is not as long as the catalogue says
  *    5  the id is 0
  *    6  no file has this id
@@ -29,11 +31,21 @@
 #include <stddef.h>
 #include <stdint.h>
 
+enum {
+  EVDISK_BLOCK = 512,                 /* the bytes of a block */
+  EVDISK_MOST_FILES = 64,             /* the most files of a disk */
+  EVDISK_CATALOGUE = 4096,            /* the bytes of the small catalogue, which is version 1 */
+  EVDISK_MOST_BLOCKS = 4096,          /* the most blocks of a disk with the small catalogue */
+  EVDISK_LARGE_CATALOGUE = 16384,     /* the bytes of the large catalogue, which is version 2 */
+  EVDISK_LARGE_MOST_BLOCKS = 1048576  /* the most blocks of a disk with the large catalogue */
+};
+
 #ifdef __cplusplus
 extern "C" {
 #endif
 
-/* Makes the catalogue that of a disk with no file. The disk is not touched. Answers its number of blocks. */
+/* Makes the catalogue that of a disk with no file, in the version of the catalogue's length. The disk is not touched.
+ * Answers its number of blocks. */
 int64_t evdisk_format(uint8_t *cat, size_t cat_length, const uint8_t *disk, size_t disk_length);
 
 /* Adds a file with the pages of content, 512 bytes each. Answers their number. */

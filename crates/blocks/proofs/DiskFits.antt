@@ -8,7 +8,7 @@ use Rattle.layout.specs.Layout.{OnDisk}
 use Rattle.layout.specs.Lists.{Each}
 use Rattle.section.proofs.Buddies.{upper}
 use Rattle.section.proofs.Lengths.{pow-lt-inv}
-use Rattle.section.specs.Limits.{blockSize, greatestDisk, greatestHeight}
+use Rattle.section.specs.Limits.{blockSize, greatestDisk, greatestHeight, heightCount}
 use Rattle.section.specs.Sections.{buddyOf, endOf}
 use Rattle.section.specs.declared.Section.{Section}
 use Rattle.piece_lists.specs.Few.{piecePlaces}
@@ -16,7 +16,7 @@ use Rattle.table.specs.Tables.{piecesIn}
 use Rattle.table.specs.declared.Entry.{Entry}
 
 height-fits : (c : ℕ) (s : Section) → c ≤ greatestDisk → OnDisk c s → s .height .value ≤ greatestHeight
-height-fits c s m o = let h = pow-lt-inv (s .height .value) 13 (omega (arith, o .within)) in omega arith
+height-fits c s m o = let h = pow-lt-inv (s .height .value) heightCount (omega (arith, o .within)) in omega arith
 
 -- a file whose pieces are on the disk
 pub entry-on-disk : (c : ℕ) (e : Entry) → c ≤ greatestDisk → e .count ≤ piecePlaces → Each (OnDisk c) (piecesIn e)

@@ -6,7 +6,7 @@ use mathlib.Core.Path.{_∙_, _≡_}
 use Prim.Native.Nat.{ℕ}
 use lib.Dec.{eqb, leb, ltb}
 use lib.ListN.{length}
-use Rattle.catalogue.specs.Version.{version1}
+use Rattle.catalogue.specs.declared.Version.{Version}
 use Rattle.layout.specs.Adding.{allocate}
 use Rattle.layout.specs.Layout.{Layout, freeBlocks, hasFile}
 use Rattle.layout.specs.Lists.{done, more}
@@ -15,13 +15,13 @@ use Rattle.manager.specs.Conditions.{Condition, Outcome, addChecks, allowed, co
 use Rattle.manager.specs.Conditions.{unpaged, wrongDisk}
 use Rattle.manager.specs.Disk.{pageCount}
 use Rattle.manager.specs.Outcomes.{addPieces}
-use Rattle.section.specs.Limits.{mostFiles}
+use Rattle.section.specs.Limits.{mostFiles, heightCount}
 
 abbrev pub checks : Layout → ℕ → List ℕ → List ℕ → List Condition
 checks l i bs d = condition 4 (wrongDisk l d) ∷ addChecks i bs l
 
-abbrev pub act : Layout → ℕ → List ℕ → List ℕ → List ℕ → Outcome
-act l i bs cat d = addPieces version1 i bs cat d l (allocate 0 (version1 .heights) (pageCount bs) (l .free))
+abbrev pub act : Version → Layout → ℕ → List ℕ → List ℕ → List ℕ → Outcome
+act v l i bs cat d = addPieces v i bs cat d l (allocate 0 heightCount (pageCount bs) (l .free))
 
 module _ (l : Layout) (i : ℕ) (bs d : List ℕ) where
   abbrev last : List Condition

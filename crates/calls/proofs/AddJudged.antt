@@ -19,16 +19,16 @@ use Rattle.looking.specs.Opened.{Opened}
 use Rattle.calls.specs.Changing.{Makes, addOn}
 use Rattle.looking.specs.declared.Answer.{Answer}
 use Rattle.catalogue.specs.Encoding.{encode}
-use Rattle.catalogue.specs.Version.{version1}
+use Rattle.catalogue.specs.declared.Version.{Version}
 use Rattle.layout.proofs.Swaps.{right}
 use Rattle.layout.specs.Adding.{allocate, allocated}
-use Rattle.layout.specs.Layout.{freeBlocks, hasFile, isFound}
+use Rattle.layout.specs.Layout.{Layout, freeBlocks, hasFile, isFound}
 use Rattle.layout.specs.Sound.{greatestId}
 use Rattle.manager.specs.Conditions.{Outcome, answered, firstRefusal, refusal, refused, unlessRefused, unpaged}
 use Rattle.manager.specs.Conditions.{wrongDisk}
 use Rattle.manager.specs.Disk.{pageCount}
 use Rattle.manager.specs.Outcomes.{addPieces}
-use Rattle.section.specs.Limits.{blockSize, mostFiles}
+use Rattle.section.specs.Limits.{blockSize, mostFiles, heightCount}
 use Rattle.table.proofs.Released.{find-at, find-none}
 use Rattle.table.specs.Files.{hasId}
 use Rattle.piece_lists.specs.Places.{IsPlace, firstPlace}
@@ -49,12 +49,12 @@ whole-paged bs n e =
 
 module _ (t : Table) (o : Opened t) (i : ℕ) (bs d : List ℕ) where
   abbrev Refuses : Answer → Type 0
-  Refuses a = Makes (λ cat. addOn (layoutOf t) i bs cat d) d (refusing a t)
+  Refuses a = Makes (t .blocks) (λ v cat. addOn v (layoutOf t) i bs cat d) d (refusing a t)
 
   refuse : (k : ℕ) (a : Answer) → replyOf a ≡ refused k → firstRefusal (checks (layoutOf t) i bs d) ≡ refusal k
       → Refuses a
   refuse k a q e =
-      refused-makes (firstRefusal (checks (layoutOf t) i bs d)) k e a q d (λ cat. act (layoutOf t) i bs cat d) t
+      refused-makes (firstRefusal (checks (layoutOf t) i bs d)) k e a q d (λ v cat. act v (layoutOf t) i bs cat d) t
       (o .sized)
 
   pub refuse-disk : (length d ≡ blockSize * t .blocks → ⊥) → Refuses Answer·.DiskLength
@@ -132,36 +132,42 @@ module _ (t : Table) (o : Opened t) (i : ℕ) (bs d : List ℕ) where
 
 -- ---- the answer
 
-allowed-is : (t : Table) (i n : ℕ) (bs d : List ℕ) → CanAdd t i n (length d) bs → (cat : List ℕ)
-    → addOn (layoutOf t) i bs cat d ≡ act (layoutOf t) i bs cat d
+allowed-is : (t : Table) (i n : ℕ) (bs d : List ℕ) → CanAdd t i n (length d) bs → (v : Version) (cat : List ℕ)
+    → addOn v (layoutOf t) i bs cat d ≡ act v (layoutOf t) i bs cat d
 unfolding layoutOf
-allowed-is t i n bs d c cat =
-    ap (λ j. unlessRefused j cat d [] (act (layoutOf t) i bs cat d))
+allowed-is t i n bs d c v cat =
+    ap (λ j. unlessRefused j cat d [] (act v (layoutOf t) i bs cat d))
     (judge-none (layoutOf t) i bs d (ap not (eq-eqb (length d) (blockSize * t .blocks) (c .disk)))
     (ne-eqb i 0 (λ z. omega (arith, c .least))) (c .fresh) (c .paged)
     (lt-leb mostFiles (length (filesOf t)) (omega (arith, c .opened .files, c .few)))
     (le-ltb (freeBlocks (layoutOf t)) (pageCount bs) (c .fits)))
 
 allocation-is : (t : Table) (i : ℕ) (bs d d′ : List ℕ) (r : Table) (p : Places t i bs d d′ r)
-    → allocate 0 13 (pageCount bs) (layoutOf t .free) ≡ allocated (p .pieces) (p .rest)
+    → allocate 0 heightCount (pageCount bs) (layoutOf t .free) ≡ allocated (p .pieces) (p .rest)
 unfolding layoutOf
 allocation-is t i bs d d′ r p = p .allocation
 
+kept-blocks : (t : Table) (i : ℕ) (bs d d′ : List ℕ) (r : Table) → Places t i bs d d′ r
+    → layoutOf r .blocks ≡ t .blocks
+unfolding layoutOf
+kept-blocks t i bs d d′ r p = ap (λ (l : Layout). l .blocks) (p .layout)
+
 pub answer-add : (t : Table) (i n : ℕ) (bs d d′ : List ℕ) (r : Table) → CanAdd t i n (length d) bs
     → Places t i bs d d′ r
-    → Makes (λ cat. addOn (layoutOf t) i bs cat d) d′
+    → Makes (t .blocks) (λ v cat. addOn v (layoutOf t) i bs cat d) d′
     (record { answer = Answer·.Number n; changed = true; table = r })
 answer-add t i n bs d d′ r c p = record {
-  answer = λ cat. ap answered (c .pages) ∙ sym (ap (λ (o : Outcome). o .reply) (done-is cat));
-  disk = λ cat. p .disk ∙ sym (ap (λ (o : Outcome). o .disk) (done-is cat));
+  answer = λ v cat. ap answered (c .pages) ∙ sym (ap (λ (o : Outcome). o .reply) (done-is v cat));
+  disk = λ v cat. p .disk ∙ sym (ap (λ (o : Outcome). o .disk) (done-is v cat));
   kept = λ z. absurd (let y : _≡_ {A = ℕ} 0 1 = cc in omega arith);
-  stored = λ _ cat. ap (encode version1) (p .layout) ∙ sym (ap (λ (o : Outcome). o .catalogue) (done-is cat));
+  stored = λ _ v cat. ap (encode v) (p .layout) ∙ sym (ap (λ (o : Outcome). o .catalogue) (done-is v cat));
   rules = λ _. p .rules;
+  blocks = λ _. kept-blocks t i bs d d′ r p;
   sized = p .sized;
 }
   where
-    done-is : (cat : List ℕ) → addOn (layoutOf t) i bs cat d
-        ≡ addPieces version1 i bs cat d (layoutOf t) (allocated (p .pieces) (p .rest))
-    done-is cat =
-        allowed-is t i n bs d c cat
-        ∙ ap (addPieces version1 i bs cat d (layoutOf t)) (allocation-is t i bs d d′ r p)
+    done-is : (v : Version) (cat : List ℕ) → addOn v (layoutOf t) i bs cat d
+        ≡ addPieces v i bs cat d (layoutOf t) (allocated (p .pieces) (p .rest))
+    done-is v cat =
+        allowed-is t i n bs d c v cat
+        ∙ ap (addPieces v i bs cat d (layoutOf t)) (allocation-is t i bs d d′ r p)

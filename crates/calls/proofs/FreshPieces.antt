@@ -9,7 +9,7 @@ use lib.Seq.{append-snoc}
 use Rattle.calls.specs.Fresh.{piecesWith}
 use Rattle.layout.proofs.Allocating.{mod-digit}
 use Rattle.layout.specs.Layout.{digit, piecesFrom}
-use Rattle.section.specs.Limits.{greatestDisk, greatestHeight}
+use Rattle.section.specs.Limits.{greatestDisk, heightCount}
 use Rattle.section.specs.Sections.{section}
 use Rattle.section.specs.declared.Section.{Section}
 use Rattle.free_pieces.proofs.LaidMore.{pushed}
@@ -56,12 +56,12 @@ module _ (c h : ℕ) where
 -- ---- from the first height to the last
 
 pub pieces-start : (c : ℕ) (f : Pieces) → c ≤ greatestDisk → listOf f ≡ []
-    → piecesWith c (suc greatestHeight) f ≡ piecesFrom (suc greatestHeight) c 0
+    → piecesWith c heightCount f ≡ piecesFrom heightCount c 0
 unfolding piecesWith
 pieces-start c f p e =
-    let m : c % 2 ^ suc greatestHeight ≡ c = mod-eq-of-lt (omega arith) in
-    let z : c - c % 2 ^ suc greatestHeight ≡ 0 = omega (arith, m) in
-    ap₂ (λ a y. a ++ piecesFrom (suc greatestHeight) c y) e z
+    let m : c % 2 ^ heightCount ≡ c = mod-eq-of-lt (omega arith) in
+    let z : c - c % 2 ^ heightCount ≡ 0 = omega (arith, m) in
+    ap₂ (λ a y. a ++ piecesFrom heightCount c y) e z
 
 pub pieces-end : (c h : ℕ) (f : Pieces) → h ≡ 0 → listOf f ≡ piecesWith c h f
 unfolding piecesWith piecesFrom

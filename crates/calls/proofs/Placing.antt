@@ -2,7 +2,7 @@
 use mathlib.Core.Bool.{Bool, false, true}
 use mathlib.Core.List.{List}
 use mathlib.Core.Path.{_∙_, _≡_, ap, refl, subst, sym}
-use Prim.Native.Nat.{_*_, _<_, _≤_, suc, ℕ}
+use Prim.Native.Nat.{_*_, _<_, _≤_, ℕ}
 use native.Mathlib.Omega.{arith}
 use lib.ListN.{length}
 use Rattle.blocks.proofs.DiskFits.{entry-on-disk}
@@ -18,7 +18,7 @@ use Rattle.layout.specs.Layout.{blockCount, blocksOf}
 use Rattle.layout.specs.Sound.{Sound}
 use Rattle.manager.proofs.Contents.{paged-length}
 use Rattle.manager.specs.Disk.{cutPages, pageCount, writePages}
-use Rattle.section.specs.Limits.{blockSize, greatestHeight, mostFiles}
+use Rattle.section.specs.Limits.{blockSize, mostFiles, heightCount}
 use Rattle.section.specs.declared.Section.{Section}
 use Rattle.free_pieces.specs.Allocating.{Allots, allocatedOf, laidPieces}
 use Rattle.table.specs.Files.{Adds}
@@ -44,8 +44,8 @@ laid-is p s r e = go (p .ok) e
     go false q = absurd (let z : _≡_ {A = ℕ} 0 1 = cc in omega arith)
 
 module _ (t : Table) (i n k : ℕ) (bs : List ℕ) (c : CanAdd t i n k bs) (p : Laid)
-    (a : Allots (allocate 0 (suc greatestHeight) n (freeOf (t .free))) p) where
-  sums : SoundSums 13 (layoutOf t)
+    (a : Allots (allocate 0 heightCount n (freeOf (t .free))) p) where
+  sums : SoundSums heightCount (layoutOf t)
   sums = opened-sums t (c .opened)
 
   size : (1 ≤ pageCount bs) × (blockSize * pageCount bs ≡ length bs)
@@ -55,15 +55,15 @@ module _ (t : Table) (i n k : ℕ) (bs : List ℕ) (c : CanAdd t i n k bs) (p : 
   new = record { id = i; count = p .count; items = p .items }
 
   -- the pieces that were laid are those of the definition
-  given : (allocate 0 13 (pageCount bs) (freeOf (t .free)) ≡ allocated (piecesIn new) (freeOf (p .free)))
-      × Allocates (t .blocks) 13 (pageCount bs) (freeOf (t .free)) (piecesIn new) (freeOf (p .free))
+  given : (allocate 0 heightCount (pageCount bs) (freeOf (t .free)) ≡ allocated (piecesIn new) (freeOf (p .free)))
+      × Allocates (t .blocks) heightCount (pageCount bs) (freeOf (t .free)) (piecesIn new) (freeOf (p .free))
   unfolding layoutOf
   given =
-      let x = allocate-fits 13 i (pageCount bs) (layoutOf t) sums (c .fits) in
-      let m : allocatedOf p ≡ allocate 0 13 (pageCount bs) (freeOf (t .free)) =
-      a .meaning ∙ ap (λ z. allocate 0 13 z (freeOf (t .free))) (c .pages) in
+      let x = allocate-fits heightCount i (pageCount bs) (layoutOf t) sums (c .fits) in
+      let m : allocatedOf p ≡ allocate 0 heightCount (pageCount bs) (freeOf (t .free)) =
+      a .meaning ∙ ap (λ z. allocate 0 heightCount z (freeOf (t .free))) (c .pages) in
       let w = sym m ∙ laid-is p (x .0) (x .1) (m ∙ x .2) in
-      (w, subst (AllocatesOf (t .blocks) 13 (pageCount bs) (freeOf (t .free))) (sym (x .2) ∙ w) (x .3))
+      (w, subst (AllocatesOf (t .blocks) heightCount (pageCount bs) (freeOf (t .free))) (sym (x .2) ∙ w) (x .3))
 
   few-files : length (filesOf t) < mostFiles
   few-files = omega (arith, c .opened .files, c .few)
@@ -71,7 +71,8 @@ module _ (t : Table) (i n k : ℕ) (bs : List ℕ) (c : CanAdd t i n k bs) (p : 
   sized : blockCount (piecesIn new) ≡ pageCount bs
   unfolding layoutOf
   sized =
-      added-size 13 i (pageCount bs) (layoutOf t) sums (piecesIn new) (freeOf (p .free)) (given .1) (c .fresh)
+      added-size heightCount i (pageCount bs) (layoutOf t) sums (piecesIn new) (freeOf (p .free)) (given .1)
+      (c .fresh)
       (c .least) (c .most) (size .0) (c .fits) few-files
 
   -- what writing the pages asks for
@@ -95,9 +96,10 @@ module _ (t : Table) (i n k : ℕ) (bs : List ℕ) (c : CanAdd t i n k bs) (p : 
     layout = m .layout;
     disk = w;
     rules =
-        subst (Sound 13) (sym (m .layout))
-        (sums-sound 13 (withFile i (piecesIn new) (freeOf (p .free)) (layoutOf t))
-        (added-sound 13 i (pageCount bs) (layoutOf t) sums (piecesIn new) (freeOf (p .free)) (given .1) (c .fresh)
+        subst (Sound heightCount) (sym (m .layout))
+        (sums-sound heightCount (withFile i (piecesIn new) (freeOf (p .free)) (layoutOf t))
+        (added-sound heightCount i (pageCount bs) (layoutOf t) sums (piecesIn new) (freeOf (p .free)) (given .1)
+        (c .fresh)
         (c .least) (c .most) (size .0) (c .fits) few-files));
     sized = m .sized;
   }

@@ -15,7 +15,13 @@ use Rattle.calls.specs.Changing.{Makes, removeOn}
 use Rattle.calls.specs.TakingOut.{CanTakeOut, TakesOut, fileAt, removalAt}
 use Rattle.settling.specs.declared.Settled.{Settled}
 use Rattle.catalogue.specs.Encoding.{encode}
-use Rattle.catalogue.specs.Version.{version1}
+use Rattle.catalogue.specs.declared.Version.{Version}
+use Rattle.layout.proofs.Finding.{found-find}
+use Rattle.layout.proofs.Removed.{removal-keeps}
+use Rattle.layout.proofs.Soundness.{sound-sums}
+use Rattle.layout.specs.Removing.{layoutAfter}
+use Rattle.section.specs.Limits.{heightCount}
+use Rattle.layout.specs.Layout.{Layout}
 use Rattle.layout.specs.Layout.{findFile, found, hasFile, isFound}
 use Rattle.layout.specs.Removing.{release}
 use Rattle.manager.proofs.Judging.{passes, refuses-by}
@@ -30,7 +36,7 @@ use Rattle.table.specs.declared.Table.{Table}
 
 module _ (t : Table) (op : Opened t) (id : ℕ) (d : List ℕ) where
   pub remove-wrong-disk : (length d ≡ blockSize * t .blocks → ⊥)
-      → Makes (λ cat. removeOn (layoutOf t) id cat d) d (refusing Answer·.DiskLength t)
+      → Makes (t .blocks) (λ v cat. removeOn v (layoutOf t) id cat d) d (refusing Answer·.DiskLength t)
   unfolding layoutOf
   remove-wrong-disk ne =
       refused-makes _ 4
@@ -47,7 +53,8 @@ module _ (t : Table) (op : Opened t) (id : ℕ) (d : List ℕ) where
         ≡ firstRefusal (fileChecks id (layoutOf t))
     past-disk = passes (condition 4 (wrongDisk (layoutOf t) d)) (fileChecks id (layoutOf t)) right
 
-    pub remove-id-zero : id ≡ 0 → Makes (λ cat. removeOn (layoutOf t) id cat d) d (refusing Answer·.IdZero t)
+    pub remove-id-zero : id ≡ 0 → Makes (t .blocks) (λ v cat. removeOn v (layoutOf t) id cat d) d
+        (refusing Answer·.IdZero t)
     remove-id-zero e =
         refused-makes _ 5 (past-disk ∙ refuses-by (condition 5 (eqb id 0)) _ (eq-eqb id 0 e))
         Answer·.IdZero refl d _ t (op .sized)
@@ -61,7 +68,7 @@ module _ (t : Table) (op : Opened t) (id : ℕ) (d : List ℕ) where
       most = omega (arith, op .array, op .sized .files)
 
       pub remove-missing : t .count ≤ i
-          → Makes (λ cat. removeOn (layoutOf t) id cat d) d (refusing Answer·.IdMissing t)
+          → Makes (t .blocks) (λ v cat. removeOn v (layoutOf t) id cat d) d (refusing Answer·.IdMissing t)
       unfolding layoutOf
       remove-missing le =
           refused-makes _ 6
@@ -79,25 +86,33 @@ module _ (t : Table) (op : Opened t) (id : ℕ) (d : List ℕ) where
         pub remove-can-take : CanTakeOut t i (length d)
         remove-can-take = record { opened = op; disk = ld; there = lt; first = first-of-id t id i most at lt }
 
-        outcome-is : (cat : List ℕ)
-            → removeOn (layoutOf t) id cat d
-            ≡ afterMerges version1 (release (fileAt t i) (layoutOf t)) d (removalAt t i)
+        outcome-is : (v : Version) (cat : List ℕ)
+            → removeOn v (layoutOf t) id cat d
+            ≡ afterMerges v (release (fileAt t i) (layoutOf t)) d (removalAt t i)
         unfolding firstRefusal
-        outcome-is cat =
-            ap₂ (λ j x. unlessRefused j cat d [] (removeFound version1 cat d (layoutOf t) x))
+        outcome-is v cat =
+            ap₂ (λ j x. unlessRefused j cat d [] (removeFound v cat d (layoutOf t) x))
             (past-id
             ∙ passes (condition 6 (not (hasFile id (layoutOf t .files)))) []
             (ap (λ x. not (isFound x)) there))
             there
 
+        removed-blocks : layoutAfter (release (fileAt t i) (layoutOf t)) (removalAt t i) .blocks ≡ t .blocks
+        unfolding layoutOf
+        removed-blocks =
+            let x = found-find id (layoutOf t .files) (fileAt t i) there in
+            removal-keeps heightCount id (layoutOf t) (fileAt t i) (x .0)
+            (sound-sums heightCount (layoutOf t) (omega arith) (op .rules)) (x .1) .blocks
+
         pub remove-makes : (d′ : List ℕ) (s : Settled) → TakesOut t i d d′ s
-            → Makes (λ cat. removeOn (layoutOf t) id cat d) d′
+            → Makes (t .blocks) (λ v cat. removeOn v (layoutOf t) id cat d) d′
             (record { answer = Answer·.Number (s .copied); changed = true; table = s .table })
         remove-makes d′ s e = record {
-          answer = λ cat. ap answered (e .count) ∙ sym (ap (λ o. o .reply) (outcome-is cat));
-          disk = λ cat. e .disk ∙ sym (ap (λ o. o .disk) (outcome-is cat));
+          answer = λ v cat. ap answered (e .count) ∙ sym (ap (λ o. o .reply) (outcome-is v cat));
+          disk = λ v cat. e .disk ∙ sym (ap (λ o. o .disk) (outcome-is v cat));
           kept = λ c. absurd (let z : _≡_ {A = ℕ} 0 1 = cc in omega arith);
-          stored = λ _ cat. ap (encode version1) (e .layout) ∙ sym (ap (λ o. o .catalogue) (outcome-is cat));
+          stored = λ _ v cat. ap (encode v) (e .layout) ∙ sym (ap (λ o. o .catalogue) (outcome-is v cat));
           rules = λ _. e .rules;
+          blocks = λ _. ap (λ (l : Layout). l .blocks) (e .layout) ∙ removed-blocks;
           sized = e .sized;
         }

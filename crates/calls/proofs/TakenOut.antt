@@ -1,10 +1,10 @@
 -- A file taken out of a table: what the release and the merges ask for, and what they leave. Assumes nothing.
 use mathlib.Core.List.{List}
 use mathlib.Core.Path.{_∙_, _≡_, ap, ap₂, subst, sym}
-use Prim.Native.Nat.{_*_, _≤_, suc, ℕ}
+use Prim.Native.Nat.{_*_, _≤_, ℕ}
 use native.Mathlib.Omega.{arith}
 use lib.ListN.{length}
-use Rattle.section.specs.Limits.{blockSize, greatestDisk, greatestHeight}
+use Rattle.section.specs.Limits.{blockSize, greatestDisk, heightCount}
 use Rattle.layout.proofs.Finding.{found-find}
 use Rattle.layout.proofs.MergeKeeps.{Whole}
 use Rattle.layout.proofs.Removed.{removal-keeps}
@@ -29,8 +29,8 @@ module _ (t : Table) (i : ℕ) (d : List ℕ) (c : CanTakeOut t i (length d)) wh
   most : t .count ≤ length (t .files)
   most = omega (arith, c .opened .array, c .opened .sized .files)
 
-  sums : SoundSums (suc greatestHeight) (layoutOf t)
-  sums = sound-sums (suc greatestHeight) (layoutOf t) (omega arith) (c .opened .rules)
+  sums : SoundSums heightCount (layoutOf t)
+  sums = sound-sums heightCount (layoutOf t) (omega arith) (c .opened .rules)
 
   there : findFile (entryAt t i .id) (layoutOf t .files) ≡ found (fileAt t i)
   unfolding layoutOf
@@ -61,18 +61,18 @@ module _ (t : Table) (i : ℕ) (d : List ℕ) (c : CanTakeOut t i (length d)) wh
       merges : mergesOf r ≡ removalAt t i
       unfolding removal layoutOf
       merges =
-          ap₂ (λ n w. mergeAll n (suc greatestHeight) w)
+          ap₂ (λ n w. mergeAll n heightCount w)
           (sym (re .exact) ∙ ap (λ w. length (w .free)) (re .layout)) (re .layout)
 
       after : layoutOf (s .table) ≡ layoutAfter (release (fileAt t i) (layoutOf t)) (removalAt t i)
       after = e .layout ∙ ap₂ (λ w ms. layoutAfter w ms) (re .layout) merges
 
-      sound-after : Sound (suc greatestHeight) (layoutOf (s .table))
+      sound-after : Sound heightCount (layoutOf (s .table))
       sound-after =
           let x = found-find (entryAt t i .id) (layoutOf t .files) (fileAt t i) there in
-          subst (Sound (suc greatestHeight)) (sym after)
-          (sums-sound (suc greatestHeight) _
-          (removal-keeps (suc greatestHeight) (entryAt t i .id) (layoutOf t) (fileAt t i) (x .0) sums (x .1) .sound))
+          subst (Sound heightCount) (sym after)
+          (sums-sound heightCount _
+          (removal-keeps heightCount (entryAt t i .id) (layoutOf t) (fileAt t i) (x .0) sums (x .1) .sound))
 
       -- what the two leave
       pub taken-out : TakesOut t i d d′ s

@@ -2,9 +2,9 @@
 use mathlib.Core.Path.{_≡_}
 use mathlib.Core.Bool.{false}
 use mathlib.Core.List.{List}
-use Prim.Native.Nat.{ℕ, suc, _*_, _<_, _≤_}
+use Prim.Native.Nat.{ℕ, _*_, _<_, _≤_}
 use Rattle.section.specs.declared.Section.{Section}
-use Rattle.section.specs.Limits.{blockSize, greatestHeight, mostFiles}
+use Rattle.section.specs.Limits.{blockSize, mostFiles, heightCount}
 use Rattle.layout.specs.Adding.{allocate, allocated, withFile}
 use Rattle.layout.specs.Layout.{blocksOf, freeBlocks, hasFile}
 use Rattle.layout.specs.Sound.{Sound, greatestId}
@@ -31,8 +31,8 @@ pub record CanAdd (t : Table) (i n k : ℕ) (bs : List ℕ) : Type 0 where
 pub record Places (t : Table) (i : ℕ) (bs d d′ : List ℕ) (r : Table) : Type 0 where
   pub pieces : List Section
   pub rest : List Section
-  pub allocation : allocate 0 (suc greatestHeight) (pageCount bs) (freeOf (t .free)) ≡ allocated pieces rest
+  pub allocation : allocate 0 heightCount (pageCount bs) (freeOf (t .free)) ≡ allocated pieces rest
   pub layout : layoutOf r ≡ withFile i pieces rest (layoutOf t)
   pub disk : d′ ≡ writePages d (blocksOf pieces) (cutPages (pageCount bs) bs)
-  pub rules : Sound (suc greatestHeight) (layoutOf r)
+  pub rules : Sound heightCount (layoutOf r)
   pub sized : Sized r

@@ -2,13 +2,13 @@
 use mathlib.Core.Path.{_≡_}
 use mathlib.Core.Bool.{true, false}
 use mathlib.Core.List.{List, [], _∷_}
-use Prim.Native.Nat.{ℕ, suc}
-use Rattle.section.specs.Limits.{greatestHeight}
+use Prim.Native.Nat.{ℕ}
+use Rattle.section.specs.Limits.{heightCount}
 use Rattle.layout.specs.Adding.{allocate}
 use Rattle.layout.specs.Layout.{Layout, findFile}
 use Rattle.layout.specs.Sound.{Sound}
 use Rattle.catalogue.specs.Encoding.{encode}
-use Rattle.catalogue.specs.Version.{version1}
+use Rattle.catalogue.specs.declared.Version.{Version}
 use Rattle.manager.specs.Conditions.{Outcome, addChecks, condition, fileChecks, firstRefusal, unlessRefused, wrongDisk}
 use Rattle.manager.specs.Disk.{pageCount}
 use Rattle.manager.specs.Outcomes.{addPieces, removeFound}
@@ -16,23 +16,25 @@ use Rattle.table.specs.Tables.{Sized, layoutOf}
 use Rattle.looking.specs.Answers.{replyOf}
 use Rattle.calls.specs.declared.Changed.{Changed}
 
--- ---- the outcomes past the catalogue, for any catalogue bytes
+-- ---- the outcomes past the catalogue, for any version and any catalogue bytes
 
-abbrev pub addOn : Layout → ℕ → List ℕ → List ℕ → List ℕ → Outcome
-addOn l i bs cat d =
+abbrev pub addOn : Version → Layout → ℕ → List ℕ → List ℕ → List ℕ → Outcome
+addOn v l i bs cat d =
     unlessRefused (firstRefusal (condition 4 (wrongDisk l d) ∷ addChecks i bs l)) cat d []
-    (addPieces version1 i bs cat d l (allocate 0 (version1 .heights) (pageCount bs) (l .free)))
+    (addPieces v i bs cat d l (allocate 0 heightCount (pageCount bs) (l .free)))
 
-abbrev pub removeOn : Layout → ℕ → List ℕ → List ℕ → Outcome
-removeOn l i cat d =
+abbrev pub removeOn : Version → Layout → ℕ → List ℕ → List ℕ → Outcome
+removeOn v l i cat d =
     unlessRefused (firstRefusal (condition 4 (wrongDisk l d) ∷ fileChecks i l)) cat d []
-    (removeFound version1 cat d l (findFile i (l .files)))
+    (removeFound v cat d l (findFile i (l .files)))
 
--- r is what the outcome says of the table: another one, to be stored, or the same
-pub record Makes (o : List ℕ → Outcome) (d′ : List ℕ) (r : Changed) : Type 0 where
-  pub answer : (cat : List ℕ) → replyOf (r .answer) ≡ o cat .reply
-  pub disk : (cat : List ℕ) → d′ ≡ o cat .disk
-  pub kept : r .changed ≡ false → (cat : List ℕ) → cat ≡ o cat .catalogue
-  pub stored : r .changed ≡ true → (cat : List ℕ) → encode version1 (layoutOf (r .table)) ≡ o cat .catalogue
-  pub rules : r .changed ≡ true → Sound (suc greatestHeight) (layoutOf (r .table))
+-- r is what the outcome says of the table of b blocks: another one, to be stored, or the same
+pub record Makes (b : ℕ) (o : Version → List ℕ → Outcome) (d′ : List ℕ) (r : Changed) : Type 0 where
+  pub answer : (v : Version) (cat : List ℕ) → replyOf (r .answer) ≡ o v cat .reply
+  pub disk : (v : Version) (cat : List ℕ) → d′ ≡ o v cat .disk
+  pub kept : r .changed ≡ false → (v : Version) (cat : List ℕ) → cat ≡ o v cat .catalogue
+  pub stored : r .changed ≡ true → (v : Version) (cat : List ℕ)
+      → encode v (layoutOf (r .table)) ≡ o v cat .catalogue
+  pub rules : r .changed ≡ true → Sound heightCount (layoutOf (r .table))
+  pub blocks : r .changed ≡ true → layoutOf (r .table) .blocks ≡ b
   pub sized : Sized (r .table)

@@ -1,9 +1,9 @@
 -- What the free pieces of a fresh disk are. Definitions only.
 use mathlib.Core.Path.{_≡_}
 use mathlib.Core.List.{List, _++_}
-use Prim.Native.Nat.{ℕ, suc, _-_, _%_, _^_, _≤_}
+use Prim.Native.Nat.{ℕ, _-_, _%_, _^_, _≤_}
 use Rattle.section.specs.declared.Section.{Section}
-use Rattle.section.specs.Limits.{greatestHeight}
+use Rattle.section.specs.Limits.{heightCount}
 use Rattle.layout.specs.Layout.{piecesFrom}
 use Rattle.piece_lists.specs.declared.Pieces.{Pieces}
 use Rattle.piece_lists.specs.Few.{listOf, piecePlaces}
@@ -14,5 +14,5 @@ piecesWith c h f = listOf f ++ piecesFrom h c (c - c % 2 ^ h)
 
 -- r has a piece for each 1 of c
 pub record FreeFor (c : ℕ) (r : Pieces) : Type 0 where
-  pub list : listOf r ≡ piecesFrom (suc greatestHeight) c 0
+  pub list : listOf r ≡ piecesFrom heightCount c 0
   pub most : r .count ≤ piecePlaces

@@ -1,9 +1,9 @@
 -- What taking a file out of a table asks for and promises. Definitions only.
 use mathlib.Core.List.{List}
 use mathlib.Core.Path.{_≡_}
-use Prim.Native.Nat.{ℕ, suc, _*_, _<_}
+use Prim.Native.Nat.{ℕ, _*_, _<_}
 use lib.ListN.{length}
-use Rattle.section.specs.Limits.{blockSize, greatestHeight}
+use Rattle.section.specs.Limits.{blockSize, heightCount}
 use Rattle.layout.specs.Layout.{File}
 use Rattle.layout.specs.Sound.{Sound}
 use Rattle.layout.specs.Removing.{Merge, copiesOf, layoutAfter, release, removal}
@@ -29,13 +29,13 @@ fileAt t i = fileOf (entryAt t i)
 
 -- the merges of the removal of that file
 abbrev pub removalAt : Table → ℕ → List Merge
-removalAt t i = removal (suc greatestHeight) (fileAt t i) (layoutOf t)
+removalAt t i = removal heightCount (fileAt t i) (layoutOf t)
 
 -- r is t without that file, its copies made on the disk and counted
 pub record TakesOut (t : Table) (i : ℕ) (d d′ : List ℕ) (r : Settled) : Type 0 where
   pub layout : layoutOf (r .table) ≡ layoutAfter (release (fileAt t i) (layoutOf t)) (removalAt t i)
   pub disk : d′ ≡ runCopies d (copiesOf (removalAt t i))
   pub count : r .copied ≡ length (copiesOf (removalAt t i))
-  pub rules : Sound (suc greatestHeight) (layoutOf (r .table))
+  pub rules : Sound heightCount (layoutOf (r .table))
   pub sized : Sized (r .table)
   pub exact : length (freeOf (r .table .free)) ≡ r .table .free .count

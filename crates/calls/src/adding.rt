@@ -39,7 +39,7 @@ fn place_file(disk: &mut [u8], t: Table, id: u32, n: u32, content: &[u8]) -> Tab
 fn add_file(disk: &mut [u8], t: Table, id: u16, content: &[u8]) -> Changed
     requires { ⌜ Opened t ⌝ }
     requires { ⌜ (length (now disk) ≡ blockSize * t .blocks) × (1 ≤ id) ⌝ }
-    ensures { λ r. ⌜ Makes (λ cat. addOn (layoutOf t) id (now (content .entry)) cat (now (disk .entry)))
+    ensures { λ r. ⌜ Makes (t .blocks) (λ v cat. addOn v (layoutOf t) id (now (content .entry)) cat (now (disk .entry)))
         (now (disk .exit)) r ⌝ }
 {
     let at = t.find(id as u32);
@@ -72,7 +72,7 @@ fn add_file(disk: &mut [u8], t: Table, id: u16, content: &[u8]) -> Changed
 // An add on a loaded table: the conditions past the catalogue, then the pages and the new table.
 pub fn add_in(disk: &mut [u8], t: Table, id: u16, content: &[u8]) -> Changed
     requires { ⌜ Opened t ⌝ }
-    ensures { λ r. ⌜ Makes (λ cat. addOn (layoutOf t) id (now (content .entry)) cat (now (disk .entry)))
+    ensures { λ r. ⌜ Makes (t .blocks) (λ v cat. addOn v (layoutOf t) id (now (content .entry)) cat (now (disk .entry)))
         (now (disk .exit)) r ⌝ }
 {
     if disk.len() != Section::BLOCK_SIZE * (t.blocks as usize) {

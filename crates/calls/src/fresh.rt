@@ -17,7 +17,7 @@ pub fn fresh_free(blocks: u32) -> Pieces
     };
     let mut free = Pieces {
         count: 0,
-        items: [none; 13],
+        items: [none; Pieces::PLACES],
     };
     let mut h: u32 = Height::GREATEST + 1;
     while 0 < h {

@@ -24,7 +24,8 @@ fn take_out(disk: &mut [u8], t: Table, i: usize) -> Settled
 // A removal on a loaded table: the conditions past the catalogue, then the release and the merges.
 pub fn remove_in(disk: &mut [u8], t: Table, id: u16) -> Changed
     requires { ⌜ Opened t ⌝ }
-    ensures { λ r. ⌜ Makes (λ cat. removeOn (layoutOf t) id cat (now (disk .entry))) (now (disk .exit)) r ⌝ }
+    ensures { λ r. ⌜ Makes (t .blocks) (λ v cat. removeOn v (layoutOf t) id cat (now (disk .entry)))
+        (now (disk .exit)) r ⌝ }
 {
     if disk.len() != Section::BLOCK_SIZE * (t.blocks as usize) {
         return kept(t, Answer::DiskLength);

@@ -4,7 +4,7 @@ use mathlib.Core.List.{List, [], _∷_}
 use mathlib.Core.Path.{_∙_, _≡_, ap, refl, sym}
 use Prim.Native.Nat.{ℕ}
 use Rattle.catalogue.specs.Reading.{readCatalogue, sound}
-use Rattle.catalogue.specs.Version.{version1}
+use Rattle.catalogue.specs.Version.{versionOf}
 use Rattle.layout.specs.Layout.{Layout}
 use Rattle.manager.specs.Table.{isListed}
 use Rattle.case_inputs.specs.Refusals.{HasRefusal, conditionsOf, numbersIn}
@@ -23,7 +23,7 @@ numbersOf Call·.Check = 1 ∷ 3 ∷ 4 ∷ []
 
 -- they are those of the manager's conditions
 pub condition-numbers : (call : Call) (i p : ℕ) (b cat d : List ℕ) (l : Layout)
-    → readCatalogue version1 cat ≡ sound l → numbersIn (conditionsOf call i p b cat d) ≡ numbersOf call
+    → readCatalogue (versionOf cat) cat ≡ sound l → numbersIn (conditionsOf call i p b cat d) ≡ numbersOf call
 condition-numbers Call·.Format i p b cat d l e = refl
 condition-numbers Call·.Add i p b cat d l e = rw e
 condition-numbers Call·.Remove i p b cat d l e = rw e

@@ -2,14 +2,22 @@
 use mathlib.Core.Bool.{cond}
 use Prim.Native.Nat.{ℕ}
 use Rattle.case_inputs.specs.Refusals.{isOneOf}
-
--- one byte less than a catalogue has
-abbrev pub catalogueLength : ℕ → ℕ → ℕ
-catalogueLength x y = cond (isOneOf 1 x y) 4095 4096
+use Rattle.case_inputs.specs.declared.refusals.Call.{Call}
+use Rattle.case_inputs.specs.declared.refusals.Call.the-variants as Call·
 
 -- 65 blocks and a byte, 65 blocks, or all 66
 abbrev pub diskLength : ℕ → ℕ → ℕ
 diskLength x y = cond (isOneOf 2 x y) 33281 (cond (isOneOf 4 x y) 33280 33792)
+
+-- one that the call does not refuse: that of no file where one is added, else that of a file
+abbrev pub usualId : Call → ℕ
+usualId Call·.Format = 1
+usualId Call·.Add = 100
+usualId Call·.Remove = 1
+usualId Call·.Read = 1
+usualId Call·.Breaks = 1
+usualId Call·.Free = 1
+usualId Call·.Check = 1
 
 -- no id, that of no file, or that of a file
 abbrev pub idPassed : ℕ → ℕ → ℕ → ℕ

@@ -3,15 +3,9 @@
 // A disk of 66 blocks has the files 1, 2 and 3 of one page, or 1 to 64 of one page where the refusal 10 is to apply.
 ghost use mathlib.Core.Path.{_≡_};
 ghost use lib.IntN.{pos};
-ghost use Rattle.case_inputs.specs.Store.{bufferLength, catalogueLength, diskLength, firstPage, idPassed};
+ghost use Rattle.case_inputs.specs.Store.{bufferLength, diskLength, firstPage, idPassed, usualId};
+use crate::refusals::Call;
 use crate::refusals::is_one_of;
-
-// The bytes of the catalogue that are lent.
-pub fn catalogue_length(x: u32, y: u32) -> isize
-    ensures { λ r. ⌜ r ≡ pos (catalogueLength x y) ⌝ }
-{
-    if is_one_of(1, x, y) { 4095 } else { 4096 }
-}
 
 // The bytes of the disk that are lent.
 pub fn disk_length(x: u32, y: u32) -> isize
@@ -23,6 +17,21 @@ pub fn disk_length(x: u32, y: u32) -> isize
         33280
     } else {
         33792
+    }
+}
+
+// An id that the call does not refuse: that of no file where one is added, else that of a file.
+pub fn usual_id(call: Call) -> u16
+    ensures { λ r. ⌜ r ≡ usualId call ⌝ }
+{
+    match call {
+        Call::Format => 1,
+        Call::Add => 100,
+        Call::Remove => 1,
+        Call::Read => 1,
+        Call::Breaks => 1,
+        Call::Free => 1,
+        Call::Check => 1,
     }
 }
 

@@ -12,7 +12,8 @@ use Rattle.catalogue.specs.Encoding.{pairsBytes, usedBytes}
 use Rattle.catalogue.specs.Reading.{Reading, every, fileRead, isSound, judged, pairwise, readCatalogue, readEntries}
 use Rattle.catalogue.specs.Reading.{readEntry, readFrom, readHeader, readLayout, readPair, readPairs, sound}
 use Rattle.catalogue.specs.Reading.{unsound}
-use Rattle.catalogue.specs.Version.{version1}
+use Rattle.catalogue.specs.Version.{versionFor, versionOf}
+use Rattle.catalogue.specs.declared.Version.{Version}
 use Rattle.layout.specs.Adding.{allocate, takeFirst, takePiece}
 use Rattle.layout.specs.Layout.{File, Found, Layout, blockRun, blocksOf, breaksOf, filePieces, findFile, found}
 use Rattle.layout.specs.Layout.{freshLayout, missing, piecesFrom}
@@ -24,9 +25,10 @@ use Rattle.case_table.proofs.CaseRows.{untouched}
 use Rattle.manager.specs.Call.{Call, add, breaks, check, free, read, remove}
 use Rattle.manager.specs.Conditions.{Outcome, firstRefusal}
 use Rattle.manager.specs.Disk.{cutPages, joinPages, pageCount, pagesOn, runCopies, writePages}
-use Rattle.manager.specs.Outcomes.{addOutcome, breaksReply, checkReply, formatOutcome, freeReply, perform}
-use Rattle.manager.specs.Outcomes.{readOutcome, removeOutcome}
-use Rattle.section.specs.Limits.{blockSize, catalogueSize}
+use Rattle.manager.specs.Outcomes.{addIn, breaksIn, breaksReply, checkIn, formatIn, formatOutcome, freeIn, perform}
+use Rattle.manager.specs.Outcomes.{readIn, removeIn}
+use Rattle.section.specs.Limits.{blockSize, heightCount}
+use Rattle.section.specs.Heights.{heightOf}
 use Rattle.section.specs.Sections.{buddyFirst, isAligned, isInside, isOnDisk, movedInto, parentFirst, sharesBlock}
 
 -- ---- blocks
@@ -68,16 +70,15 @@ expected r =
 
 -- ---- the calls of a row
 
--- a call of version 1; who unfolds this unfolds every definition that computing a call takes
+-- a call; who unfolds this unfolds every definition that computing a call takes
 unfoldable pub performed : Call → List ℕ → List ℕ → Outcome
 unfolding onesIn ones buddyFirst parentFirst isAligned isOnDisk sharesBlock isInside movedInto takeFirst takePiece
     allocate filePieces blockRun blocksOf breaksOf findFile piecesFrom freshLayout insertBy sortBy copyRun mergePair
     merge nextMerge mergeAll copiesOf layoutAfter insertAll withoutFile release removal bigEndian pairBytes
     pairsBytes entryBytes entriesBytes headerBytes usedBytes encode every pairwise isSound readFrom readPair
     readPairs fileRead readEntry readEntries readHeader readLayout judged readCatalogue pagesOn cutPages joinPages
-    writePages runCopies firstRefusal formatOutcome addOutcome removeOutcome readOutcome breaksReply freeReply
-    checkReply
-performed c cat d = perform version1 c cat d
+    writePages runCopies firstRefusal formatIn addIn removeIn readIn breaksIn freeIn checkIn versionFor heightOf
+performed c cat d = perform c cat d
 
 -- the buffers, and what was seen so far
 pub record State : Type 0 where
@@ -88,7 +89,7 @@ pub record State : Type 0 where
 
 -- the copies of the removal of a file that is there
 abbrev pub copiesOfFound : Layout → Found → List Copy
-copiesOfFound l (found f) = copiesOf (removal (version1 .heights) f l)
+copiesOfFound l (found f) = copiesOf (removal heightCount f l)
 copiesOfFound l missing = []
 
 -- the copies of the removal of an id
@@ -99,7 +100,7 @@ copiesOnReading i unsound = []
 -- the copies of the last removal, after one more call
 abbrev pub lastCopies : Call → List ℕ → List Copy → List Copy
 lastCopies (add i bs) cat cs = cs
-lastCopies (remove i) cat cs = copiesOnReading i (readCatalogue version1 cat)
+lastCopies (remove i) cat cs = copiesOnReading i (readCatalogue (versionOf cat) cat)
 lastCopies (read i p o) cat cs = cs
 lastCopies (breaks i) cat cs = cs
 lastCopies free cat cs = cs
@@ -122,12 +123,12 @@ afterCalls (c ∷ l) s =
     afterCalls l (afterCall (performed c (s .catalogue) (s .disk)) (lastCopies c (s .catalogue) (s .copies)) s)
 
 -- format gets a catalogue buffer and a disk of other bytes; a given layout's block x is filled with the byte x
-abbrev pub startState : Start → State
-startState (freshDisk c) =
-    afterCall (formatOutcome version1 (replicate catalogueSize 255) (untouched c)) []
+abbrev pub startState : Version → Start → State
+startState v (freshDisk c) =
+    afterCall (formatOutcome (replicate (v .bytes) 255) (untouched c)) []
     (record { replies = []; copies = []; catalogue = []; disk = [] })
-startState (givenLayout l) =
-    record { replies = []; copies = []; catalogue = encode version1 l; disk = filledBlocks 0 (l .blocks) }
+startState v (givenLayout l) =
+    record { replies = []; copies = []; catalogue = encode v l; disk = filledBlocks 0 (l .blocks) }
 
 -- ---- what a state shows
 
@@ -136,7 +137,7 @@ abbrev pub seenFile : List ℕ → List ℕ → File → FileSeen
 seenFile cat d f =
     record {
       id = f .id;
-      breaksReplied = breaksReply version1 (f .id) cat;
+      breaksReplied = breaksReply (f .id) cat;
       blocks = blocksOf (f .pieces);
       pages = map byteOf (pagesOn d (f .pieces));
     }
@@ -149,7 +150,7 @@ seenFiles cat d unsound = []
 -- everything that is compared
 abbrev pub shownBy : State → Shown
 shownBy s =
-    let reading : Reading = readCatalogue version1 (s .catalogue) in
+    let reading : Reading = readCatalogue (versionOf (s .catalogue)) (s .catalogue) in
     record {
       replies = s .replies;
       copies = s .copies;
@@ -158,6 +159,6 @@ shownBy s =
       disk = bytesOfBlocks (s .disk);
     }
 
--- a row, computed
-abbrev pub computed : Row → Shown
-computed r = shownBy (afterCalls (r .calls) (startState (r .start)))
+-- a row, computed in a version
+abbrev pub computed : Version → Row → Shown
+computed v r = shownBy (afterCalls (r .calls) (startState v (r .start)))

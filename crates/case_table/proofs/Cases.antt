@@ -1,15 +1,16 @@
 -- Cases 1 to 11 of document 01, proved together by computing every row of the table from the definitions of the
--- calls, and the bytes of the catalogue of case 7. Assumes nothing.
+-- calls, with the small catalogue, and its bytes in case 7. Assumes nothing.
 use mathlib.Core.List.{List, [], _++_, _∷_, map}
 use mathlib.Core.Path.{_≡_, refl}
 use Prim.Native.Nat.{_-_, ℕ}
 use lib.ListN.{replicate}
+use Rattle.catalogue.specs.Version.{version1}
 use Rattle.case_table.proofs.CaseRows.{freshDisk, upToSeven}
 use Rattle.case_table.proofs.CaseRun.{afterCalls, computed, expected, performed, startState}
 use Rattle.case_table.proofs.CaseTable.{caseTable}
 
--- every row shows what is expected of it
-pub cases-hold : map computed caseTable ≡ map expected caseTable
+-- every row shows what is expected of it, in version 1
+pub cases-hold : map (computed version1) caseTable ≡ map expected caseTable
 unfolding performed
 cases-hold = refl
 
@@ -29,7 +30,7 @@ usedInSeven =
     ∷ []
 
 -- all 4,096 bytes of the catalogue after case 7: the used ones, and zero bytes to the end
-pub case-seven-bytes : afterCalls upToSeven (startState (freshDisk 16)) .catalogue
+pub case-seven-bytes : afterCalls upToSeven (startState version1 (freshDisk 16)) .catalogue
     ≡ usedInSeven ++ replicate (4096 - 34) 0
 unfolding performed
 case-seven-bytes = refl

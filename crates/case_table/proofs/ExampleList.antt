@@ -4,7 +4,6 @@ use mathlib.Core.List.{List, [], _∷_}
 use mathlib.Core.Path.{_≡_, refl}
 use Prim.Native.Nat.{ℕ}
 use lib.ListN.{replicate}
-use Rattle.catalogue.specs.Version.{version1}
 use Rattle.case_table.proofs.CaseRows.{contentOf, filledBlocks, untouched}
 use Rattle.case_table.proofs.CaseRun.{performed}
 use Rattle.manager.specs.Book.{Book, BookReply, BookStep, answers, anyNumber, bytesOf, contentPages}
@@ -13,7 +12,7 @@ use Rattle.manager.specs.Book.{writeLine}
 use Rattle.manager.specs.Call.{Call, add, breaks, check, free, read, remove}
 use Rattle.manager.specs.Conditions.{Outcome, Reply, answered, refused}
 use Rattle.manager.specs.Outcomes.{formatOutcome}
-use Rattle.section.specs.Limits.{catalogueSize}
+use Rattle.section.specs.Limits.{smallCatalogue}
 
 -- what manager and book do at a call
 pub record Both : Type 0 where
@@ -37,7 +36,7 @@ besideBook (c ∷ l) cat d b =
 -- from the catalogue and the disk that format leaves, and a fresh book
 abbrev pub fromFormat : ℕ → List Call → List Both
 fromFormat c calls =
-    let x : Outcome = formatOutcome version1 (replicate catalogueSize 255) (untouched c) in
+    let x : Outcome = formatOutcome (replicate smallCatalogue 255) (untouched c) in
     besideBook calls (x .catalogue) (x .disk) (freshBook c)
 
 -- the calls

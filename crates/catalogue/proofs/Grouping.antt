@@ -4,8 +4,9 @@ use mathlib.Core.Path.{_≡_}
 use Prim.Native.Nat.{ℕ}
 use lib.ListN.{length}
 use Rattle.catalogue.specs.Encoding.{bigEndian, entriesBytes, entryBytes, headerBytes, pairBytes, pairsBytes}
-use Rattle.catalogue.specs.Encoding.{shortField, usedBytes}
-use Rattle.catalogue.specs.Version.{Version}
+use Rattle.catalogue.specs.Encoding.{usedBytes}
+use Rattle.catalogue.specs.Version.{shortField}
+use Rattle.catalogue.specs.declared.Version.{Version}
 use Rattle.layout.specs.Layout.{File, Layout, byFirst, fileBlocks}
 use Rattle.layout.specs.Lists.{sortBy}
 use Rattle.section.specs.Sections.{lengthOf}

@@ -10,4 +10,6 @@ pub mod Size
 pub mod ReadOnly
 pub mod ReadOnlyLayout
 pub mod Reading
+pub mod Versions
 pub mod CaseSeven
+pub mod LargePairs

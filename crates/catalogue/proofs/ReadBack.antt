@@ -12,7 +12,8 @@ use Rattle.catalogue.proofs.Fields.{field-back}
 use Rattle.catalogue.proofs.Grouping.{entries-cons, entry-fields, pairs-cons}
 use Rattle.catalogue.proofs.Sorting.{sort-back}
 use Rattle.catalogue.proofs.Tests.{and-intro, pairs-pairwise}
-use Rattle.catalogue.specs.Encoding.{bigEndian, byteValues, entriesBytes, entryBytes, pairsBytes, shortField}
+use Rattle.catalogue.specs.Encoding.{bigEndian, byteValues, entriesBytes, entryBytes, pairsBytes}
+use Rattle.catalogue.specs.Version.{shortField}
 use Rattle.catalogue.specs.Reading.{Read, bad, fileRead, got, pairwise, readEntries, readEntry, readField}
 use Rattle.catalogue.specs.Reading.{readPair, readPairs, sectionRead, then}
 use Rattle.layout.proofs.Lists.{each-sort, length-sort, pairwise-imp, sum-sort}
@@ -21,33 +22,34 @@ use Rattle.layout.proofs.Taking.{sort-rising}
 use Rattle.layout.specs.Layout.{File, blockCount, byFirst, byLength, fileBlocks, holdsBlock}
 use Rattle.layout.specs.Lists.{Each, Pairwise, done, more, sortBy, sumOf}
 use Rattle.layout.specs.Sound.{greatestId}
-use Rattle.section.proofs.Lengths.{height-up-to}
-use Rattle.section.specs.Heights.{heightUpTo}
+use Rattle.section.proofs.Lengths.{height-of-length}
+use Rattle.section.specs.Heights.{heightOf}
+use Rattle.section.specs.Limits.{greatestHeight}
 use Rattle.section.specs.Sections.{lengthOf}
 use Rattle.section.specs.declared.Section.{Section}
 
--- a section that fits fields of w bytes, with heights below k
-abbrev pub Fits : ℕ → ℕ → Section → Type 0
-Fits k w s = (s .height .value < k) × ((s .first < byteValues ^ w) × (lengthOf s < byteValues ^ w))
+-- a section whose height has a length, and that fits fields of w bytes
+abbrev pub Fits : ℕ → Section → Type 0
+Fits w s = (s .height .value ≤ greatestHeight) × ((s .first < byteValues ^ w) × (lengthOf s < byteValues ^ w))
 
-module _ (k w : ℕ) where
-  pair-back : (s : Section) (r : List ℕ) → Fits k w s
-      → readPair k w (bigEndian w (s .first) ++ (bigEndian w (lengthOf s) ++ r)) ≡ got s r
+module _ (w : ℕ) where
+  pair-back : (s : Section) (r : List ℕ) → Fits w s
+      → readPair w (bigEndian w (s .first) ++ (bigEndian w (lengthOf s) ++ r)) ≡ got s r
   unfolding readPair
   pair-back s r p =
-      ap (λ z. then z λ x r. then (readField w r) λ n r′. sectionRead x (heightUpTo (k - 1) n) r′)
+      ap (λ z. then z λ x r. then (readField w r) λ n r′. sectionRead x (heightOf n) r′)
       (field-back w (s .first) (bigEndian w (lengthOf s) ++ r) (p .1 .0))
-      ∙ (ap (λ z. then z λ n r′. sectionRead (s .first) (heightUpTo (k - 1) n) r′)
+      ∙ (ap (λ z. then z λ n r′. sectionRead (s .first) (heightOf n) r′)
       (field-back w (lengthOf s) r (p .1 .1))
-      ∙ ap (λ z. sectionRead (s .first) z r) (height-up-to (k - 1) (s .height .value) (omega (arith, p .0))))
+      ∙ ap (λ z. sectionRead (s .first) z r) (height-of-length (s .height .value) (p .0)))
 
-  pub pairs-back : {l : List Section} (r : List ℕ) → Each (Fits k w) l
-      → readPairs (length l) k w (pairsBytes w l ++ r) ≡ got l r
+  pub pairs-back : {l : List Section} (r : List ℕ) → Each (Fits w) l
+      → readPairs (length l) w (pairsBytes w l ++ r) ≡ got l r
   unfolding readPairs pairsBytes
   pairs-back r done = refl
   pairs-back r (more {a = s} {l = l} p e) =
-      ap (readPairs (suc (length l)) k w) (pairs-cons w s l r)
-      ∙ (ap (λ z. then z λ s r. then (readPairs (length l) k w r) λ l r′. got (s ∷ l) r′)
+      ap (readPairs (suc (length l)) w) (pairs-cons w s l r)
+      ∙ (ap (λ z. then z λ s r. then (readPairs (length l) w r) λ l r′. got (s ∷ l) r′)
       (pair-back s (pairsBytes w l ++ r) p)
       ∙ ap (λ z. then z λ l r′. got (s ∷ l) r′) (pairs-back r e))
 
@@ -55,21 +57,21 @@ module _ (k w : ℕ) where
   pub record FileFits (f : File) : Type 0 where
     pub id : f .id ≤ greatestId
     pub order : Pairwise (λ (s t : Section). t .height .value < s .height .value) (f .pieces)
-    pub pieces : Each (Fits k w) (f .pieces)
+    pub pieces : Each (Fits w) (f .pieces)
     pub once : (x : ℕ) → sumOf (holdsBlock x) (f .pieces) ≤ 1
     pub size : fileBlocks f < byteValues ^ w
     pub count : length (f .pieces) ≡ ones (fileBlocks f)
 
-  entry-back : (f : File) (r : List ℕ) → FileFits f → readEntry k w (entryBytes w f ++ r) ≡ got f r
+  entry-back : (f : File) (r : List ℕ) → FileFits f → readEntry w (entryBytes w f ++ r) ≡ got f r
   unfolding readEntry fileRead
   entry-back f r g =
-      ap (readEntry k w) (entry-fields w f r)
+      ap (readEntry w) (entry-fields w f r)
       ∙ (ap
-      (λ z. then z λ i r. then (readField w r) λ n r′. then (readPairs (ones n) k w r′) λ l r″. fileRead i n l r″)
+      (λ z. then z λ i r. then (readField w r) λ n r′. then (readPairs (ones n) w r′) λ l r″. fileRead i n l r″)
       (field-back shortField (f .id) (bigEndian w (fileBlocks f) ++ (pairsBytes w l ++ r)) id-fits)
-      ∙ (ap (λ z. then z λ n r′. then (readPairs (ones n) k w r′) λ l r″. fileRead (f .id) n l r″)
+      ∙ (ap (λ z. then z λ n r′. then (readPairs (ones n) w r′) λ l r″. fileRead (f .id) n l r″)
       (field-back w (fileBlocks f) (pairsBytes w l ++ r) (g .size))
-      ∙ (ap (λ z. then (readPairs z k w (pairsBytes w l ++ r)) λ l r″. fileRead (f .id) (fileBlocks f) l r″) count
+      ∙ (ap (λ z. then (readPairs z w (pairsBytes w l ++ r)) λ l r″. fileRead (f .id) (fileBlocks f) l r″) count
       ∙ (ap (λ z. then z λ l r″. fileRead (f .id) (fileBlocks f) l r″)
       (pairs-back r (each-sort byFirst (g .pieces)))
       ∙ from))))
@@ -100,11 +102,11 @@ module _ (k w : ℕ) where
           ∙ ap (λ z. got (record { id = f .id; pieces = z }) r) (sort-back (g .order))
 
   pub entries-back : {fs : List File} (r : List ℕ) → Each FileFits fs
-      → readEntries (length fs) k w (entriesBytes w fs ++ r) ≡ got fs r
+      → readEntries (length fs) w (entriesBytes w fs ++ r) ≡ got fs r
   unfolding readEntries entriesBytes
   entries-back r done = refl
   entries-back r (more {a = f} {l = fs} p e) =
-      ap (readEntries (suc (length fs)) k w) (entries-cons w f fs r)
-      ∙ (ap (λ z. then z λ f r. then (readEntries (length fs) k w r) λ l r′. got (f ∷ l) r′)
+      ap (readEntries (suc (length fs)) w) (entries-cons w f fs r)
+      ∙ (ap (λ z. then z λ f r. then (readEntries (length fs) w r) λ l r′. got (f ∷ l) r′)
       (entry-back f (entriesBytes w fs ++ r) p)
       ∙ ap (λ z. then z λ l r′. got (f ∷ l) r′) (entries-back r e))

@@ -14,11 +14,12 @@ use Rattle.catalogue.proofs.Grouping.{used-fields}
 use Rattle.catalogue.proofs.ReadBack.{FileFits, Fits, entries-back, pairs-back}
 use Rattle.catalogue.proofs.Roomy.{Roomy}
 use Rattle.catalogue.proofs.Tests.{and-intro, sound-test}
-use Rattle.catalogue.specs.Encoding.{bigEndian, byteValues, encode, entriesBytes, pairsBytes, shortField}
+use Rattle.catalogue.specs.Encoding.{bigEndian, byteValues, encode, entriesBytes, pairsBytes}
+use Rattle.catalogue.specs.Version.{shortField}
 use Rattle.catalogue.specs.Encoding.{usedBytes}
 use Rattle.catalogue.specs.Reading.{Header, Read, Reading, bad, every, got, judged, readCatalogue, readHeader}
 use Rattle.catalogue.specs.Reading.{readLayout, sound, unsound}
-use Rattle.catalogue.specs.Version.{Version}
+use Rattle.catalogue.specs.declared.Version.{Version}
 use Rattle.layout.proofs.Cover.{disjoint-le}
 use Rattle.layout.proofs.Lists.{each-and, each-imp, each-left, each-right, pairwise-imp, sum-append}
 use Rattle.layout.specs.Layout.{File, Layout, OnDisk, allPieces, fileBlocks, filePieces, holdsBlock}
@@ -33,27 +34,27 @@ module _ (v : Version) (room : Roomy v) (l : Layout) (s : Sound (v .heights) l) 
   blocks-fit : l .blocks < byteValues ^ v .width
   blocks-fit = omega (arith, s .most-blocks, room .wide)
 
-  fits : (p : Section) → OnDisk (l .blocks) p → p .height .value < v .heights → Fits (v .heights) (v .width) p
+  fits : (p : Section) → OnDisk (l .blocks) p → p .height .value < v .heights → Fits (v .width) p
   fits p d h = (
-    h,
+    omega (arith, h, room .served .most-heights),
     (
       omega (arith, d .within, blocks-fit, pow-pos (p .height .value)),
       omega (arith, d .within, blocks-fit, pow-pos (p .height .value)),
     ),
   )
 
-  pub pieces-fit : Each (Fits (v .heights) (v .width)) (allPieces l)
+  pub pieces-fit : Each (Fits (v .width)) (allPieces l)
   pieces-fit = each-imp (λ p q. fits p (q .0) (q .1)) (each-and (s .on-disk) (s .heights))
 
   once : (x : ℕ) → sumOf (holdsBlock x) (allPieces l) ≤ 1
   once x = disjoint-le x (s .apart)
 
-  files-fitting : (fs : List File) → Each (Fits (v .heights) (v .width)) (filePieces fs)
+  files-fitting : (fs : List File) → Each (Fits (v .width)) (filePieces fs)
       → ((x : ℕ) → sumOf (holdsBlock x) (filePieces fs) ≤ 1) → sumOf fileBlocks fs ≤ l .blocks
       → Each (λ (f : File). f .id ≤ greatestId) fs
       → Each (λ (f : File). Pairwise (λ (s t : Section). lengthOf t < lengthOf s) (f .pieces)) fs
       → Each (λ (f : File). length (f .pieces) ≡ ones (fileBlocks f)) fs
-      → Each (FileFits (v .heights) (v .width)) fs
+      → Each (FileFits (v .width)) fs
   unfolding filePieces
   files-fitting [] a b c d e g = done
   files-fitting (f ∷ fs) a b c (more d ds) (more e es) (more g gs) =
@@ -69,7 +70,7 @@ module _ (v : Version) (room : Roomy v) (l : Layout) (s : Sound (v .heights) l) 
       (files-fitting fs (each-right (f .pieces) (filePieces fs) a)
       (λ x. omega (arith, b x, sum-append (holdsBlock x) (f .pieces) (filePieces fs))) (omega arith) ds es gs)
 
-  pub files-fit : Each (FileFits (v .heights) (v .width)) (l .files)
+  pub files-fit : Each (FileFits (v .width)) (l .files)
   files-fit =
       files-fitting (l .files) (each-left (filePieces (l .files)) (l .free) pieces-fit)
       (λ x. omega (arith, once x, sum-append (holdsBlock x) (filePieces (l .files)) (l .free)))
@@ -100,9 +101,9 @@ module _ (v : Version) (room : Roomy v) (l : Layout) (s : Sound (v .heights) l) 
       ap (readLayout v) (used-fields v l r)
       ∙ rw (
         header-back (entriesBytes (v .width) (l .files) ++ (pairsBytes (v .width) (l .free) ++ r)),
-        entries-back (v .heights) (v .width) (pairsBytes (v .width) (l .free) ++ r) files-fit,
+        entries-back (v .width) (pairsBytes (v .width) (l .free) ++ r) files-fit,
         sym (s .free-count),
-        pairs-back (v .heights) (v .width) r (each-right (filePieces (l .files)) (l .free) pieces-fit),
+        pairs-back (v .width) r (each-right (filePieces (l .files)) (l .free) pieces-fit),
       )
 
   zeros : (n : ℕ) → every (λ b. eqb b 0) (replicate n 0) ≡ true

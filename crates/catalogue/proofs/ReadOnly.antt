@@ -12,15 +12,16 @@ use Rattle.catalogue.proofs.Fields.{Bytes, field-inv}
 use Rattle.catalogue.proofs.Grouping.{entries-cons, entry-fields, pairs-cons}
 use Rattle.catalogue.proofs.Sorting.{firsts-back}
 use Rattle.catalogue.proofs.Tests.{pairwise-pairs}
-use Rattle.catalogue.specs.Encoding.{bigEndian, entriesBytes, entryBytes, pairsBytes, shortField}
+use Rattle.catalogue.specs.Encoding.{bigEndian, entriesBytes, entryBytes, pairsBytes}
+use Rattle.catalogue.specs.Version.{shortField}
 use Rattle.catalogue.specs.Reading.{Read, bad, fileRead, got, pairwise, readEntries, readEntry, readField}
 use Rattle.catalogue.specs.Reading.{readPair, readPairs, sectionRead, then}
 use Rattle.layout.proofs.Lists.{pairwise-imp, sum-sort}
 use Rattle.layout.proofs.Swaps.{same}
 use Rattle.layout.specs.Layout.{File, blockCount, byLength}
 use Rattle.layout.specs.Lists.{sortBy}
-use Rattle.section.proofs.Lengths.{length-up-to}
-use Rattle.section.specs.Heights.{heightUpTo}
+use Rattle.section.proofs.Lengths.{length-of-height}
+use Rattle.section.specs.Heights.{heightOf}
 use Rattle.section.specs.declared.Measured.{Measured}
 use Rattle.section.specs.declared.Measured.the-variants as Measured·
 use Rattle.section.specs.Sections.{lengthOf}
@@ -47,23 +48,23 @@ section-inv x (Measured·.Height h) r s r′ e =
     )
 section-inv x Measured·.NoLength r s r′ e = absurd (let z : _≡_ {A = ℕ} 0 1 = cc in omega arith)
 
-module _ (k w : ℕ) where
-  pair-inv : (bs : List ℕ) (s : Section) (r : List ℕ) → Bytes bs → readPair k w bs ≡ got s r
+module _ (w : ℕ) where
+  pair-inv : (bs : List ℕ) (s : Section) (r : List ℕ) → Bytes bs → readPair w bs ≡ got s r
       → (bs ≡ bigEndian w (s .first) ++ (bigEndian w (lengthOf s) ++ r)) × Bytes r
   unfolding readPair
   pair-inv bs s r b e =
       let x = then-inv (readField w bs)
-      (λ x r. then (readField w r) λ n r′. sectionRead x (heightUpTo (k - 1) n) r′) s r e in
+      (λ x r. then (readField w r) λ n r′. sectionRead x (heightOf n) r′) s r e in
       let n1 = field-inv w bs (x .0) (x .1) b (x .2) in
-      let y = then-inv (readField w (x .1)) (λ n r′. sectionRead (x .0) (heightUpTo (k - 1) n) r′) s r (x .3) in
+      let y = then-inv (readField w (x .1)) (λ n r′. sectionRead (x .0) (heightOf n) r′) s r (x .3) in
       let n2 = field-inv w (x .1) (y .0) (y .1) (n1 .1) (y .2) in
-      let z = section-inv (x .0) (heightUpTo (k - 1) (y .0)) (y .1) s r (y .3) in
-      let hh = length-up-to (k - 1) (y .0) (s .height) (z .1) .1 in (
+      let z = section-inv (x .0) (heightOf (y .0)) (y .1) s r (y .3) in
+      let hh = length-of-height (y .0) (s .height) (z .1) .1 in (
         n1 .0 ∙ ap₂ (λ a q. bigEndian w a ++ q) (z .0) (n2 .0 ∙ ap₂ (λ a q. bigEndian w a ++ q) hh (z .2)),
         subst Bytes (z .2) (n2 .1),
       )
 
-  pub pairs-inv : (c : ℕ) (bs : List ℕ) (l : List Section) (r : List ℕ) → Bytes bs → readPairs c k w bs ≡ got l r
+  pub pairs-inv : (c : ℕ) (bs : List ℕ) (l : List Section) (r : List ℕ) → Bytes bs → readPairs c w bs ≡ got l r
       → (bs ≡ pairsBytes w l ++ r) × Bytes r
   unfolding readPairs pairsBytes
   pairs-inv zero bs l r b e =
@@ -71,9 +72,9 @@ module _ (k w : ℕ) where
       let q = got-rest [] l bs r e in
       (subst (λ z. bs ≡ pairsBytes w z ++ r) p q, subst Bytes q b)
   pairs-inv (suc c) bs l r b e =
-      let x = then-inv (readPair k w bs) (λ s r. then (readPairs c k w r) λ l r′. got (s ∷ l) r′) l r e in
+      let x = then-inv (readPair w bs) (λ s r. then (readPairs c w r) λ l r′. got (s ∷ l) r′) l r e in
       let p = pair-inv bs (x .0) (x .1) b (x .2) in
-      let y = then-inv (readPairs c k w (x .1)) (λ l r′. got (x .0 ∷ l) r′) l r (x .3) in
+      let y = then-inv (readPairs c w (x .1)) (λ l r′. got (x .0 ∷ l) r′) l r (x .3) in
       let q = pairs-inv c (x .1) (y .0) (y .1) (p .1) (y .2) in
       fin (x .0) (y .0) (y .1)
       (p .0 ∙ ap (λ z. bigEndian w (x .0 .first) ++ (bigEndian w (lengthOf (x .0)) ++ z)) (q .0)) (q .1)
@@ -111,17 +112,17 @@ module _ (k w : ℕ) where
       go true p false q x = absurd (let z : _≡_ {A = ℕ} 0 1 = cc in omega arith)
       go false p t q x = absurd (let z : _≡_ {A = ℕ} 0 1 = cc in omega arith)
 
-  entry-inv : (bs : List ℕ) (f : File) (r : List ℕ) → Bytes bs → readEntry k w bs ≡ got f r
+  entry-inv : (bs : List ℕ) (f : File) (r : List ℕ) → Bytes bs → readEntry w bs ≡ got f r
       → (bs ≡ entryBytes w f ++ r) × Bytes r
   unfolding readEntry
   entry-inv bs f r b e =
       let x = then-inv (readField shortField bs)
-      (λ i r. then (readField w r) λ n r′. then (readPairs (ones n) k w r′) λ l r″. fileRead i n l r″) f r e in
+      (λ i r. then (readField w r) λ n r′. then (readPairs (ones n) w r′) λ l r″. fileRead i n l r″) f r e in
       let n1 = field-inv shortField bs (x .0) (x .1) b (x .2) in
       let y = then-inv (readField w (x .1))
-      (λ n r′. then (readPairs (ones n) k w r′) λ l r″. fileRead (x .0) n l r″) f r (x .3) in
+      (λ n r′. then (readPairs (ones n) w r′) λ l r″. fileRead (x .0) n l r″) f r (x .3) in
       let n2 = field-inv w (x .1) (y .0) (y .1) (n1 .1) (y .2) in
-      let z = then-inv (readPairs (ones (y .0)) k w (y .1)) (λ l r″. fileRead (x .0) (y .0) l r″) f r (y .3) in
+      let z = then-inv (readPairs (ones (y .0)) w (y .1)) (λ l r″. fileRead (x .0) (y .0) l r″) f r (y .3) in
       let n3 = pairs-inv (ones (y .0)) (y .1) (z .0) (z .1) (n2 .1) (z .2) in
       let q = file-inv (x .0) (y .0) (z .0) (z .1) f r (z .3) in
       fin (x .0) (y .0) (z .0) (z .1)
@@ -145,7 +146,7 @@ module _ (k w : ℕ) where
             subst Bytes rr br,
           )
 
-  pub entries-inv : (c : ℕ) (bs : List ℕ) (fs : List File) (r : List ℕ) → Bytes bs → readEntries c k w bs ≡ got fs r
+  pub entries-inv : (c : ℕ) (bs : List ℕ) (fs : List File) (r : List ℕ) → Bytes bs → readEntries c w bs ≡ got fs r
       → (bs ≡ entriesBytes w fs ++ r) × (length fs ≡ c) × Bytes r
   unfolding readEntries entriesBytes
   entries-inv zero bs fs r b e =
@@ -153,9 +154,9 @@ module _ (k w : ℕ) where
       let q = got-rest [] fs bs r e in
       (subst (λ z. bs ≡ entriesBytes w z ++ r) p q, ap length (sym p), subst Bytes q b)
   entries-inv (suc c) bs fs r b e =
-      let x = then-inv (readEntry k w bs) (λ f r. then (readEntries c k w r) λ l r′. got (f ∷ l) r′) fs r e in
+      let x = then-inv (readEntry w bs) (λ f r. then (readEntries c w r) λ l r′. got (f ∷ l) r′) fs r e in
       let p = entry-inv bs (x .0) (x .1) b (x .2) in
-      let y = then-inv (readEntries c k w (x .1)) (λ l r′. got (x .0 ∷ l) r′) fs r (x .3) in
+      let y = then-inv (readEntries c w (x .1)) (λ l r′. got (x .0 ∷ l) r′) fs r (x .3) in
       let q = entries-inv c (x .1) (y .0) (y .1) (p .1) (y .2) in
       fin (x .0) (y .0) (y .1) (p .0 ∙ ap (λ z. entryBytes w (x .0) ++ z) (q .0)) (q .1) (q .2)
       (got-value (x .0 ∷ y .0) fs (y .1) r (y .3)) (got-rest (x .0 ∷ y .0) fs (y .1) r (y .3))

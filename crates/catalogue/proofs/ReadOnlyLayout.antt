@@ -11,10 +11,11 @@ use borrow.Author.Tests.{eqb-true}
 use Rattle.catalogue.proofs.Fields.{Bytes, field-inv}
 use Rattle.catalogue.proofs.Grouping.{used-fields}
 use Rattle.catalogue.proofs.ReadOnly.{entries-inv, got-rest, got-value, pairs-inv, then-inv}
-use Rattle.catalogue.specs.Encoding.{bigEndian, entriesBytes, pairsBytes, shortField, usedBytes}
+use Rattle.catalogue.specs.Encoding.{bigEndian, entriesBytes, pairsBytes, usedBytes}
+use Rattle.catalogue.specs.Version.{shortField}
 use Rattle.catalogue.specs.Reading.{Header, Read, bad, got, readEntries, readField, readHeader, readLayout}
 use Rattle.catalogue.specs.Reading.{readPairs, then}
-use Rattle.catalogue.specs.Version.{Version}
+use Rattle.catalogue.specs.declared.Version.{Version}
 use Rattle.layout.proofs.Swaps.{same}
 use Rattle.layout.specs.Layout.{File, Layout, fileBlocks}
 use Rattle.layout.specs.Lists.{sumOf}
@@ -81,20 +82,19 @@ module _ (v : Version) where
       → bs ≡ usedBytes v l ++ r
   unfolding readLayout
   layout-inv bs l r b e =
-      let k = v .heights in
       let w = v .width in
       let x = then-inv (readHeader v bs)
-      (λ h r. then (readEntries (h .count) k w r)
-      λ fs r′. then (readPairs (ones (h .blocks - sumOf fileBlocks fs)) k w r′)
+      (λ h r. then (readEntries (h .count) w r)
+      λ fs r′. then (readPairs (ones (h .blocks - sumOf fileBlocks fs)) w r′)
       λ fr r″. got (record { blocks = h .blocks; files = fs; free = fr }) r″) l r e in
       let h1 = header-inv bs (x .0) (x .1) b (x .2) in
-      let y = then-inv (readEntries (x .0 .count) k w (x .1))
-      (λ fs r′. then (readPairs (ones (x .0 .blocks - sumOf fileBlocks fs)) k w r′)
+      let y = then-inv (readEntries (x .0 .count) w (x .1))
+      (λ fs r′. then (readPairs (ones (x .0 .blocks - sumOf fileBlocks fs)) w r′)
       λ fr r″. got (record { blocks = x .0 .blocks; files = fs; free = fr }) r″) l r (x .3) in
-      let h2 = entries-inv k w (x .0 .count) (x .1) (y .0) (y .1) (h1 .1) (y .2) in
-      let z = then-inv (readPairs (ones (x .0 .blocks - sumOf fileBlocks (y .0))) k w (y .1))
+      let h2 = entries-inv w (x .0 .count) (x .1) (y .0) (y .1) (h1 .1) (y .2) in
+      let z = then-inv (readPairs (ones (x .0 .blocks - sumOf fileBlocks (y .0))) w (y .1))
       (λ fr r″. got (record { blocks = x .0 .blocks; files = y .0; free = fr }) r″) l r (y .3) in
-      let h3 = pairs-inv k w (ones (x .0 .blocks - sumOf fileBlocks (y .0))) (y .1) (z .0) (z .1) (h2 .2) (z .2) in
+      let h3 = pairs-inv w (ones (x .0 .blocks - sumOf fileBlocks (y .0))) (y .1) (z .0) (z .1) (h2 .2) (z .2) in
       fin (x .0 .blocks) (x .0 .count) (y .0) (z .0) (z .1)
       (h1 .0
       ∙ ap (λ t. bigEndian shortField (v .number)

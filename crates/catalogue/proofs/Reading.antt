@@ -18,7 +18,7 @@ use Rattle.catalogue.proofs.Tests.{every-each, test-sound}
 use Rattle.catalogue.specs.Encoding.{encode, usedBytes}
 use Rattle.catalogue.specs.Reading.{Read, Reading, bad, every, got, isSound, judged, readCatalogue}
 use Rattle.catalogue.specs.Reading.{readLayout, sound, unsound}
-use Rattle.catalogue.specs.Version.{Version}
+use Rattle.catalogue.specs.declared.Version.{Version}
 use Rattle.layout.proofs.Swaps.{same}
 use Rattle.layout.specs.Layout.{Layout}
 use Rattle.layout.specs.Lists.{Each, more}

@@ -11,8 +11,9 @@ use lib.Pow.{pow-pos}
 use Rattle.catalogue.proofs.Fields.{Bytes, bigEndian-bytes, bigEndian-length}
 use Rattle.catalogue.proofs.Roomy.{Roomy, usedMost}
 use Rattle.catalogue.specs.Encoding.{bigEndian, encode, entriesBytes, entryBytes, headerBytes, pairBytes}
-use Rattle.catalogue.specs.Encoding.{pairsBytes, shortField, usedBytes}
-use Rattle.catalogue.specs.Version.{Version}
+use Rattle.catalogue.specs.Encoding.{pairsBytes, usedBytes}
+use Rattle.catalogue.specs.Version.{shortField}
+use Rattle.catalogue.specs.declared.Version.{Version}
 use Rattle.layout.proofs.Lists.{each-append, length-sort}
 use Rattle.layout.specs.Layout.{File, Layout, byFirst, fileBlocks, freeBlocks}
 use Rattle.layout.specs.Lists.{Each, done, more, sortBy, sumOf}

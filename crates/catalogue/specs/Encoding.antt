@@ -6,15 +6,12 @@ use Rattle.section.specs.declared.Section.{Section}
 use Rattle.section.specs.Sections.{lengthOf}
 use Rattle.layout.specs.Lists.{sortBy}
 use Rattle.layout.specs.Layout.{File, Layout, fileBlocks, byFirst}
-use Rattle.catalogue.specs.Version.{Version}
+use Rattle.catalogue.specs.Version.{shortField}
+use Rattle.catalogue.specs.declared.Version.{Version}
 
 -- the values of a byte
 abbrev pub byteValues : ℕ
 byteValues = 256
-
--- the bytes of a field for a version, a number of files or an id
-abbrev pub shortField : ℕ
-shortField = 2
 
 -- x in w bytes, the highest first
 unfoldable pub bigEndian : ℕ → ℕ → List ℕ

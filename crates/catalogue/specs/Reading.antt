@@ -11,14 +11,15 @@ use Rattle.section.specs.declared.Height.{Height}
 use Rattle.section.specs.declared.Section.{Section}
 use Rattle.section.specs.declared.Measured.{Measured}
 use Rattle.section.specs.declared.Measured.the-variants as Measured·
-use Rattle.section.specs.Heights.{heightUpTo}
+use Rattle.section.specs.Heights.{heightOf}
 use Rattle.section.specs.Limits.{mostFiles}
 use Rattle.section.specs.Sections.{isOnDisk, lengthOf, sharesBlock}
 use Rattle.layout.specs.Lists.{sumOf, sortBy}
 use Rattle.layout.specs.Layout.{File, Layout, allPieces, blockCount, byLength, fileBlocks, freeBlocks}
 use Rattle.layout.specs.Sound.{greatestId}
-use Rattle.catalogue.specs.Version.{Version}
-use Rattle.catalogue.specs.Encoding.{byteValues, shortField}
+use Rattle.catalogue.specs.declared.Version.{Version}
+use Rattle.catalogue.specs.Encoding.{byteValues}
+use Rattle.catalogue.specs.Version.{shortField}
 
 -- ---- tests on lists
 
@@ -91,14 +92,14 @@ abbrev pub sectionRead : ℕ → Measured → List ℕ → Read Section
 sectionRead x (Measured·.Height h) r = got (record { first = x; height = h }) r
 sectionRead x Measured·.NoLength r = bad
 
--- a pair, with heights below k
-unfoldable pub readPair : ℕ → ℕ → List ℕ → Read Section
-readPair k w bs = then (readField w bs) λ x r. then (readField w r) λ n r′. sectionRead x (heightUpTo (k - 1) n) r′
+-- a pair
+unfoldable pub readPair : ℕ → List ℕ → Read Section
+readPair w bs = then (readField w bs) λ x r. then (readField w r) λ n r′. sectionRead x (heightOf n) r′
 
 -- c pairs
-unfoldable pub readPairs : ℕ → ℕ → ℕ → List ℕ → Read (List Section)
-readPairs zero k w bs = got [] bs
-readPairs (suc c) k w bs = then (readPair k w bs) λ s r. then (readPairs c k w r) λ l r′. got (s ∷ l) r′
+unfoldable pub readPairs : ℕ → ℕ → List ℕ → Read (List Section)
+readPairs zero w bs = got [] bs
+readPairs (suc c) w bs = then (readPair w bs) λ s r. then (readPairs c w r) λ l r′. got (s ∷ l) r′
 
 -- a file of id i and n blocks, if its pairs stand by rising first block and sum to n; in page order
 unfoldable pub fileRead : ℕ → ℕ → List Section → List ℕ → Read File
@@ -109,17 +110,17 @@ fileRead i n l r =
     ]
 
 -- an entry: the number of its pairs follows from n
-unfoldable pub readEntry : ℕ → ℕ → List ℕ → Read File
-readEntry k w bs =
+unfoldable pub readEntry : ℕ → List ℕ → Read File
+readEntry w bs =
     then (readField shortField bs) λ i r.
     then (readField w r) λ n r′.
-    then (readPairs (ones n) k w r′) λ l r″.
+    then (readPairs (ones n) w r′) λ l r″.
     fileRead i n l r″
 
 -- c entries
-unfoldable pub readEntries : ℕ → ℕ → ℕ → List ℕ → Read (List File)
-readEntries zero k w bs = got [] bs
-readEntries (suc c) k w bs = then (readEntry k w bs) λ f r. then (readEntries c k w r) λ l r′. got (f ∷ l) r′
+unfoldable pub readEntries : ℕ → ℕ → List ℕ → Read (List File)
+readEntries zero w bs = got [] bs
+readEntries (suc c) w bs = then (readEntry w bs) λ f r. then (readEntries c w r) λ l r′. got (f ∷ l) r′
 
 -- C and the number of files
 pub record Header : Type 0 where
@@ -141,8 +142,8 @@ readHeader v bs =
 unfoldable pub readLayout : Version → List ℕ → Read Layout
 readLayout v bs =
     then (readHeader v bs) λ h r.
-    then (readEntries (h .count) (v .heights) (v .width) r) λ fs r′.
-    then (readPairs (ones (h .blocks - sumOf fileBlocks fs)) (v .heights) (v .width) r′) λ free r″.
+    then (readEntries (h .count) (v .width) r) λ fs r′.
+    then (readPairs (ones (h .blocks - sumOf fileBlocks fs)) (v .width) r′) λ free r″.
     got (record { blocks = h .blocks; files = fs; free = free }) r″
 
 -- ---- the answer

@@ -1,14 +1,17 @@
 -- An entry at the front of the bytes: two fields and the pairs of a file. Assumes nothing.
 use mathlib.Core.Bool.{false, true}
-use mathlib.Core.List.{List, [], _∷_}
+use mathlib.Core.List.{List}
 use mathlib.Core.Path.{_∙_, _≡_, ap, ap₂, refl, sym}
-use Prim.Native.Nat.{_*_, _+_, _<_, _≤_, ℕ}
+use Prim.Native.Nat.{_+_, _<_, _≤_, ℕ}
 use native.Mathlib.Omega.{arith}
 use lib.Count.{ones}
-use lib.ListN.{drop, length}
+use lib.ListN.{drop, length, length-drop}
+use Rattle.catalogue.specs.Version.{shortField}
+use Rattle.decoder.proofs.Places.{field-long, field-short}
 use borrow.Author.Tests.{eq-eqb, le-leb, lt-leb, ne-eqb}
-use Rattle.catalogue.specs.Reading.{Read, bad, fileRead, got, readEntry, readField, readFrom, readPairs, then}
-use Rattle.catalogue.specs.Version.{version1}
+use Rattle.catalogue.specs.Reading.{Read, bad, fileRead, got, readEntry, readField, readPairs, then}
+use Rattle.section.proofs.Multiples.{below-or-not}
+use mathlib.Core.Logic.{_⊎_, inl, inr}
 use Rattle.decoder.proofs.Files.{file-many, file-parts, file-read, file-refused}
 use Rattle.decoder.proofs.Runs.{pairs-bad, pairs-count, pairs-got}
 use Rattle.decoder.specs.Entries.{EntryAt, NoFile, accepted, entryIn, isFile}
@@ -26,31 +29,41 @@ use Rattle.piece_lists.specs.Few.{listOf, piecePlaces}
 use Rattle.table.specs.Tables.{fileOf}
 use Rattle.table.specs.declared.Entry.{Entry}
 
-entry-of-few : (l : List ℕ) → length l < 4 → readEntry (version1 .heights) 2 l ≡ bad
-unfolding readEntry readFrom
-entry-of-few [] h = refl
-entry-of-few (a ∷ []) h = refl
-entry-of-few (a ∷ b ∷ []) h = refl
-entry-of-few (a ∷ b ∷ c ∷ []) h = refl
-entry-of-few (a ∷ b ∷ c ∷ d ∷ l) h = absurd (omega arith)
-
-entry-at : (s : List ℕ) (i n : ℕ) (x : Read (List Section)) → FieldAt s 0 i → FieldAt s 2 n
-    → readPairs (ones n) (version1 .heights) 2 (drop 4 s) ≡ x
-    → readEntry (version1 .heights) 2 s ≡ then x λ l r. fileRead i n l r
+entry-of-few : (w : ℕ) (l : List ℕ) → length l < shortField + w → readEntry w l ≡ bad
 unfolding readEntry
-entry-at s i n x p q e =
+entry-of-few w l h = go (below-or-not (length l) 2)
+  where
+    go : (length l < 2) ⊎ (2 ≤ length l) → readEntry w l ≡ bad
+    go (inl p) =
+        ap (λ z. then z
+        λ i r. then (readField w r) λ n r′. then (readPairs (ones n) w r′) λ l r″. fileRead i n l r″)
+        (field-short 2 0 l p)
+    go (inr p) =
+        let x = field-long 2 0 l p in
+        ap (λ z. then z
+        λ i r. then (readField w r) λ n r′. then (readPairs (ones n) w r′) λ l r″. fileRead i n l r″)
+        (x .1)
+        ∙ ap (λ z. then z λ n r′. then (readPairs (ones n) w r′) λ l r″. fileRead (x .0) n l r″)
+        (field-short w 0 (drop 2 l) (omega (arith, length-drop 2 l)))
+
+entry-at : (w : ℕ) (s : List ℕ) (i n : ℕ) (x : Read (List Section)) → FieldAt shortField s 0 i
+    → FieldAt w s shortField n
+    → readPairs (ones n) w (drop (shortField + w) s) ≡ x
+    → readEntry w s ≡ then x λ l r. fileRead i n l r
+unfolding readEntry
+entry-at w s i n x p q e =
     ap (λ z. then z
-    λ i r. then (readField 2 r)
-    λ n r′. then (readPairs (ones n) (version1 .heights) 2 r′) λ l r″. fileRead i n l r″)
+    λ i r. then (readField w r)
+    λ n r′. then (readPairs (ones n) w r′) λ l r″. fileRead i n l r″)
     (p .equal)
-    ∙ (ap (λ z. then z λ n r′. then (readPairs (ones n) (version1 .heights) 2 r′) λ l r″. fileRead i n l r″)
+    ∙ (ap (λ z. then z λ n r′. then (readPairs (ones n) w r′) λ l r″. fileRead i n l r″)
     (q .equal)
     ∙ ap (λ z. then z λ l r″. fileRead i n l r″) e)
 
-no-entry-at : (s : List ℕ) (e : EntryRead) → accepted (readEntry (version1 .heights) 2 s) ≡ bad → NoFile e
-    → EntryAt s e
+no-entry-at : (w : ℕ) (s : List ℕ) (e : EntryRead) → accepted (readEntry w s) ≡ bad → NoFile e
+    → EntryAt w s e
 unfolding entryIn
-no-entry-at s e q k =
+no-entry-at w s e q k =
     record {
       meaning =
           q
@@ -63,45 +76,46 @@ no-entry-at s e q k =
       inside = omega (arith, k .2);
     }
 
-pub short-entry : (s : List ℕ) (e : EntryRead) → length s < 4
+pub short-entry : (w : ℕ) (s : List ℕ) (e : EntryRead) → length s < shortField + w
     → NoFile e
-    → EntryAt s e
+    → EntryAt w s e
 unfolding accepted
-short-entry s e h k = no-entry-at s e (ap accepted (entry-of-few s h)) k
+short-entry w s e h k = no-entry-at w s e (ap accepted (entry-of-few w s h)) k
 
 -- a file of more pieces than an entry has places
-pub many-pieces : (s : List ℕ) (i n : ℕ) → FieldAt s 0 i → FieldAt s 2 n → piecePlaces < ones n → (e : EntryRead)
+pub many-pieces : (w : ℕ) (s : List ℕ) (i n : ℕ) → FieldAt shortField s 0 i → FieldAt w s shortField n
+    → piecePlaces < ones n → (e : EntryRead)
     → NoFile e
-    → EntryAt s e
+    → EntryAt w s e
 unfolding accepted
-many-pieces s i n p q h e k =
-    let x = readPairs (ones n) (version1 .heights) 2 (drop 4 s) in
-    no-entry-at s e (ap accepted (entry-at s i n x p q refl) ∙ go x refl) k
+many-pieces w s i n p q h e k =
+    let x = readPairs (ones n) w (drop (shortField + w) s) in
+    no-entry-at w s e (ap accepted (entry-at w s i n x p q refl) ∙ go x refl) k
   where
-    go : (x : Read (List Section)) → readPairs (ones n) (version1 .heights) 2 (drop 4 s) ≡ x
+    go : (x : Read (List Section)) → readPairs (ones n) w (drop (shortField + w) s) ≡ x
         → accepted (then x λ l r. fileRead i n l r) ≡ bad
-    go (got l r) z = file-many i n l r (omega (arith, pairs-count (version1 .heights) 2 (ones n) (drop 4 s) l r z))
+    go (got l r) z = file-many i n l r (omega (arith, pairs-count w (ones n) (drop (shortField + w) s) l r z))
     go bad z = refl
 
-module _ (s : List ℕ) (i n : ℕ) (p : FieldAt s 0 i) (q : FieldAt s 2 n) (x : PairsRead)
-    (y : PairsAt s 4 (ones n) x) where
+module _ (w : ℕ) (s : List ℕ) (i n : ℕ) (p : FieldAt shortField s 0 i) (q : FieldAt w s shortField n) (x : PairsRead)
+    (y : PairsAt w s (shortField + w) (ones n) x) where
   pub unread-entry : (e : EntryRead) → x .ok ≡ false
       → NoFile e
-      → EntryAt s e
+      → EntryAt w s e
   unfolding accepted
   unread-entry e o k =
-      no-entry-at s e
+      no-entry-at w s e
       (ap accepted
-      (entry-at s i n bad p q
+      (entry-at w s i n bad p q
       (y .meaning ∙ pairs-bad x _ o)))
       k
 
   pairs-read : x .ok ≡ true
-      → accepted (readEntry (version1 .heights) 2 s)
-      ≡ accepted (fileRead i n (listOf (x .list)) (drop (4 + 4 * ones n) s))
+      → accepted (readEntry w s)
+      ≡ accepted (fileRead i n (listOf (x .list)) (drop (x .end) s))
   pairs-read o =
       ap accepted
-      (entry-at s i n (got (listOf (x .list)) (drop (4 + 4 * ones n) s)) p q
+      (entry-at w s i n (got (listOf (x .list)) (drop (x .end) s)) p q
       (y .meaning ∙ pairs-got x _ o))
 
   module _ (o : x .ok ≡ true) where
@@ -113,27 +127,27 @@ module _ (s : List ℕ) (i n : ℕ) (p : FieldAt s 0 i) (q : FieldAt s 2 n) (x :
 
     pub refused-entry : (e : EntryRead) → isFile i n (listOf (x .list)) ≡ false
         → NoFile e
-        → EntryAt s e
+        → EntryAt w s e
     refused-entry e f k =
-        no-entry-at s e
-        (pairs-read o ∙ file-refused i n (listOf (x .list)) (drop (4 + 4 * ones n) s) f) k
+        no-entry-at w s e
+        (pairs-read o ∙ file-refused i n (listOf (x .list)) (drop (x .end) s) f) k
 
     pub some-entry : (e : Entry) → isFile i n (listOf (x .list)) ≡ true → Sorts i (x .list) e
-        → EntryAt s (record { ok = true; n = n; size = 4 + 4 * ones n; entry = e })
+        → EntryAt w s (record { ok = true; n = n; size = x .end; entry = e })
     unfolding entryIn
-    some-entry e f w =
+    some-entry e f z =
         let d = file-parts i n (listOf (x .list)) f in
         record {
           meaning =
               pairs-read o
-              ∙ (file-read i n (listOf (x .list)) (drop (4 + 4 * ones n) s) counted (p .most) few f
-              ∙ ap₂ (λ j l. got (record { id = j; pieces = l }) (drop (4 + 4 * ones n) s)) (sym (w .id))
-              (sym (w .list)));
+              ∙ (file-read i n (listOf (x .list)) (drop (x .end) s) counted (p .most) few f
+              ∙ ap₂ (λ j l. got (record { id = j; pieces = l }) (drop (x .end) s)) (sym (z .id))
+              (sym (z .list)));
           pages =
               sym (d .0)
-              ∙ (sym (sum-sort lengthOf byLength (listOf (x .list))) ∙ sym (ap blockCount (w .list)));
-          most = q .most;
-          places = omega (arith, w .count, y .places);
+              ∙ (sym (sum-sort lengthOf byLength (listOf (x .list))) ∙ sym (ap blockCount (z .list)));
+          most = omega (arith, d .0, y .equal, y .most);
+          places = omega (arith, z .count, y .places);
           inside = y .inside o;
         }
 

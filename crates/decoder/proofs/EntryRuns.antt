@@ -8,7 +8,6 @@ use native.Mathlib.Omega.{arith}
 use lib.ListN.{drop, length, length-drop, set, take}
 use lib.Seq.{drop-drop, take-all}
 use Rattle.catalogue.specs.Reading.{Read, bad, every, got, readEntries, readEntry, then}
-use Rattle.catalogue.specs.Version.{version1}
 use Rattle.decoder.proofs.Entering.{entry-bad, entry-got}
 use Rattle.decoder.proofs.Runs.{after-more, after-none}
 use Rattle.soundness.proofs.Joined.{filesTo, pushed}
@@ -21,8 +20,8 @@ use Rattle.layout.specs.Lists.{sumOf}
 use Rattle.table.specs.Tables.{fileOf}
 use Rattle.table.specs.declared.Entry.{Entry}
 
-abbrev pub EntriesLeft : ℕ → List ℕ → Read (List File)
-EntriesLeft c bs = readEntries c (version1 .heights) 2 bs
+abbrev pub EntriesLeft : ℕ → ℕ → List ℕ → Read (List File)
+EntriesLeft w c bs = readEntries c w bs
 
 abbrev withFile : File → Read (List File) → Read (List File)
 withFile f y = then y λ l r. got (f ∷ l) r
@@ -56,40 +55,40 @@ then-accepted : (a : Bool) (f : File) (r : List ℕ) (k : File → List ℕ → 
 then-accepted true f r k = refl
 then-accepted false f r k = refl
 
-all-step : (c : ℕ) (x : Read File)
-    → allAccepted (then x λ f r. withFile f (EntriesLeft c r))
-    ≡ then (accepted x) λ f r. withFile f (allAccepted (EntriesLeft c r))
+all-step : (w c : ℕ) (x : Read File)
+    → allAccepted (then x λ f r. withFile f (EntriesLeft w c r))
+    ≡ then (accepted x) λ f r. withFile f (allAccepted (EntriesLeft w c r))
 unfolding accepted allAccepted
-all-step c (got f r) =
-    with-accepted f (EntriesLeft c r)
-    ∙ then-accepted (acceptable f) f r (λ f r. withFile f (allAccepted (EntriesLeft c r)))
-all-step c bad = refl
+all-step w c (got f r) =
+    with-accepted f (EntriesLeft w c r)
+    ∙ then-accepted (acceptable f) f r (λ f r. withFile f (allAccepted (EntriesLeft w c r)))
+all-step w c bad = refl
 
-entries-step : (c : ℕ) (bs : List ℕ) (acc : List File) (f : File) (r : List ℕ)
-    → accepted (readEntry (version1 .heights) 2 bs) ≡ got f r
-    → readAfter acc (allAccepted (EntriesLeft (suc c) bs))
-    ≡ readAfter (acc ++ (f ∷ [])) (allAccepted (EntriesLeft c r))
+entries-step : (w c : ℕ) (bs : List ℕ) (acc : List File) (f : File) (r : List ℕ)
+    → accepted (readEntry w bs) ≡ got f r
+    → readAfter acc (allAccepted (EntriesLeft w (suc c) bs))
+    ≡ readAfter (acc ++ (f ∷ [])) (allAccepted (EntriesLeft w c r))
 unfolding readEntries
-entries-step c bs acc f r e =
-    ap (readAfter acc) (all-step c (readEntry (version1 .heights) 2 bs))
-    ∙ (ap (λ z. readAfter acc (then z λ f r. withFile f (allAccepted (EntriesLeft c r)))) e
-    ∙ after-more acc f (allAccepted (EntriesLeft c r)))
+entries-step w c bs acc f r e =
+    ap (readAfter acc) (all-step w c (readEntry w bs))
+    ∙ (ap (λ z. readAfter acc (then z λ f r. withFile f (allAccepted (EntriesLeft w c r)))) e
+    ∙ after-more acc f (allAccepted (EntriesLeft w c r)))
 
-entries-stop : (c : ℕ) (bs : List ℕ) (acc : List File) → accepted (readEntry (version1 .heights) 2 bs) ≡ bad
-    → readAfter acc (allAccepted (EntriesLeft (suc c) bs)) ≡ bad
+entries-stop : (w c : ℕ) (bs : List ℕ) (acc : List File) → accepted (readEntry w bs) ≡ bad
+    → readAfter acc (allAccepted (EntriesLeft w (suc c) bs)) ≡ bad
 unfolding readEntries
-entries-stop c bs acc e =
-    ap (readAfter acc) (all-step c (readEntry (version1 .heights) 2 bs))
-    ∙ ap (λ z. readAfter acc (then z λ f r. withFile f (allAccepted (EntriesLeft c r)))) e
+entries-stop w c bs acc e =
+    ap (readAfter acc) (all-step w c (readEntry w bs))
+    ∙ ap (λ z. readAfter acc (then z λ f r. withFile f (allAccepted (EntriesLeft w c r)))) e
 
-entries-end : (bs : List ℕ) (acc : List File) → readAfter acc (allAccepted (EntriesLeft 0 bs)) ≡ got acc bs
+entries-end : (w : ℕ) (bs : List ℕ) (acc : List File) → readAfter acc (allAccepted (EntriesLeft w 0 bs)) ≡ got acc bs
 unfolding readEntries allAccepted every
-entries-end bs acc = ap (λ z. got z bs) (append-nil acc)
+entries-end w bs acc = ap (λ z. got z bs) (append-nil acc)
 
 -- ---- with the entries that were read in an array
 
-abbrev pub FilesLeft : List ℕ → ℕ → ℕ → ℕ → List Entry → Read (List File)
-FilesLeft s count at i files = readAfter (filesTo i files) (allAccepted (EntriesLeft (count - i) (drop at s)))
+abbrev pub FilesLeft : ℕ → List ℕ → ℕ → ℕ → ℕ → List Entry → Read (List File)
+FilesLeft w s count at i files = readAfter (filesTo i files) (allAccepted (EntriesLeft w (count - i) (drop at s)))
 
 files-pushed : (files : List Entry) (i : ℕ) (e : Entry) → i < length files
     → filesTo (i + 1) (set files i e) ≡ filesTo i files ++ (fileOf e ∷ [])
@@ -102,26 +101,26 @@ files-sum files i e h =
     ap (sumOf fileBlocks) (files-pushed files i e h)
     ∙ (sum-append fileBlocks (filesTo i files) (fileOf e ∷ []) ∙ (omega arith))
 
-pub files-start : (s : List ℕ) (count : ℕ) (files : List Entry)
-    → FilesLeft s count 6 0 files ≡ allAccepted (EntriesLeft count (drop 6 s))
-files-start s count files =
-    after-none (allAccepted (EntriesLeft (count - 0) (drop 6 s)))
-    ∙ ap (λ n. allAccepted (EntriesLeft n (drop 6 s))) zero-less
+pub files-start : (w : ℕ) (s : List ℕ) (at count : ℕ) (files : List Entry)
+    → FilesLeft w s count at 0 files ≡ allAccepted (EntriesLeft w count (drop at s))
+files-start w s at count files =
+    after-none (allAccepted (EntriesLeft w (count - 0) (drop at s)))
+    ∙ ap (λ n. allAccepted (EntriesLeft w n (drop at s))) zero-less
   where
     zero-less : count - 0 ≡ count
     zero-less = omega arith
 
-module _ (s : List ℕ) (count at i : ℕ) (files : List Entry) (h : i < count) (e : EntryRead)
-    (q : EntryAt (take (length s - at) (drop at s)) e) where
+module _ (w : ℕ) (s : List ℕ) (count at i : ℕ) (files : List Entry) (h : i < count) (e : EntryRead)
+    (q : EntryAt w (take (length s - at) (drop at s)) e) where
   one-less : count - i ≡ suc (count - (i + 1))
   one-less = omega arith
 
   whole : take (length s - at) (drop at s) ≡ drop at s
   whole = take-all _ _ (le-of-eq (length-drop at s))
 
-  at-place : accepted (readEntry (version1 .heights) 2 (drop at s)) ≡ entryIn e (drop (at + e .size) s)
+  at-place : accepted (readEntry w (drop at s)) ≡ entryIn e (drop (at + e .size) s)
   at-place =
-      sym (ap (λ z. accepted (readEntry (version1 .heights) 2 z)) whole)
+      sym (ap (λ z. accepted (readEntry w z)) whole)
       ∙ (q .meaning
       ∙ (ap (λ z. entryIn e (drop (e .size) z)) whole ∙ ap (entryIn e) (drop-drop (e .size) at s)))
 
@@ -129,25 +128,25 @@ module _ (s : List ℕ) (count at i : ℕ) (files : List Entry) (h : i < count) 
   entry-inside l = omega (arith, q .inside, ap length whole, length-drop at s)
 
   pub files-more : e .ok ≡ true → i < length files
-      → FilesLeft s count (at + e .size) (i + 1) (set files i (e .entry)) ≡ FilesLeft s count at i files
+      → FilesLeft w s count (at + e .size) (i + 1) (set files i (e .entry)) ≡ FilesLeft w s count at i files
   files-more o l =
-      ap (λ z. readAfter z (allAccepted (EntriesLeft (count - (i + 1)) (drop (at + e .size) s))))
+      ap (λ z. readAfter z (allAccepted (EntriesLeft w (count - (i + 1)) (drop (at + e .size) s))))
       (files-pushed files i (e .entry) l)
       ∙ (sym
-      (entries-step (count - (i + 1)) (drop at s) (filesTo i files) (fileOf (e .entry)) (drop (at + e .size) s)
+      (entries-step w (count - (i + 1)) (drop at s) (filesTo i files) (fileOf (e .entry)) (drop (at + e .size) s)
       (at-place ∙ entry-got e _ o))
-      ∙ ap (λ n. readAfter (filesTo i files) (allAccepted (EntriesLeft n (drop at s)))) (sym one-less))
+      ∙ ap (λ n. readAfter (filesTo i files) (allAccepted (EntriesLeft w n (drop at s)))) (sym one-less))
 
-  pub files-bad : e .ok ≡ false → FilesLeft s count at i files ≡ bad
+  pub files-bad : e .ok ≡ false → FilesLeft w s count at i files ≡ bad
   files-bad o =
-      ap (λ n. readAfter (filesTo i files) (allAccepted (EntriesLeft n (drop at s)))) one-less
-      ∙ entries-stop (count - (i + 1)) (drop at s) (filesTo i files) (at-place ∙ entry-bad e _ o)
+      ap (λ n. readAfter (filesTo i files) (allAccepted (EntriesLeft w n (drop at s)))) one-less
+      ∙ entries-stop w (count - (i + 1)) (drop at s) (filesTo i files) (at-place ∙ entry-bad e _ o)
 
-pub files-end : (s : List ℕ) (count at : ℕ) (files : List Entry)
-    → FilesLeft s count at count files ≡ got (filesTo count files) (drop at s)
-files-end s count at files =
-    ap (λ n. readAfter (filesTo count files) (allAccepted (EntriesLeft n (drop at s)))) none-left
-    ∙ entries-end (drop at s) (filesTo count files)
+pub files-end : (w : ℕ) (s : List ℕ) (count at : ℕ) (files : List Entry)
+    → FilesLeft w s count at count files ≡ got (filesTo count files) (drop at s)
+files-end w s count at files =
+    ap (λ n. readAfter (filesTo count files) (allAccepted (EntriesLeft w n (drop at s)))) none-left
+    ∙ entries-end w (drop at s) (filesTo count files)
   where
     none-left : count - count ≡ 0
     none-left = omega arith

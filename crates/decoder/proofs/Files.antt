@@ -3,7 +3,7 @@
 use mathlib.Core.Bool.{Bool, _&&_, false, not, true}
 use mathlib.Core.List.{List}
 use mathlib.Core.Path.{_∙_, _≡_, ap, refl, sym}
-use Prim.Native.Nat.{_<_, _≤_, ℕ}
+use Prim.Native.Nat.{_<_, _^_, _≤_, ℕ}
 use native.Mathlib.Nat.{le-of-lt, le-trans}
 use native.Mathlib.Omega.{arith}
 use lib.Count.{ones}
@@ -18,7 +18,7 @@ use Rattle.soundness.proofs.Ordered.{distinct, order-both, order-distinct, orde
 use Rattle.soundness.proofs.Points.{false-true, is-false}
 use Rattle.soundness.specs.Order.{inOrder}
 use Rattle.decoder.specs.Entries.{acceptable, accepted, isFile}
-use Rattle.decoder.specs.Fields.{fieldValues}
+use Rattle.catalogue.specs.Encoding.{byteValues}
 use Rattle.piece_lists.specs.Few.{piecePlaces}
 use Rattle.layout.proofs.Lists.{length-sort, pairwise-imp, sort-sorted, sum-sort}
 use Rattle.layout.proofs.Ones.{at-most-one-distinct, distinct-at-most-one}
@@ -137,7 +137,7 @@ module _ (i n : ℕ) (l : List Section) (r : List ℕ) where
   pub file-many : piecePlaces < length l → accepted (fileRead i n l r) ≡ bad
   file-many h = file-bad (λ q u. omega (arith, acceptable-few u))
 
-  module _ (counted : length l ≡ ones n) (small : i < fieldValues) (few : length l ≤ piecePlaces) where
+  module _ (counted : length l ≡ ones n) (small : i < byteValues ^ 2) (few : length l ≤ piecePlaces) where
     is-acceptable : isFile i n l ≡ true → acceptable made ≡ true
     unfolding isFile acceptable
     is-acceptable e =

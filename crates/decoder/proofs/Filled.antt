@@ -10,33 +10,35 @@ use Rattle.decoder.proofs.EntryRuns.{EntriesLeft, FilesLeft, entry-insi
 use Rattle.decoder.proofs.EntryRuns.{files-start, files-sum}
 use Rattle.soundness.proofs.Joined.{filesTo}
 use Rattle.decoder.specs.Entries.{EntryAt, allAccepted}
-use Rattle.decoder.specs.Fields.{fieldValues}
+use Rattle.catalogue.specs.Version.{headerSize}
+use Rattle.piece_lists.specs.Few.{piecePlaces}
 use Rattle.decoder.specs.declared.EntryRead.{EntryRead}
 use Rattle.piece_lists.proofs.EachItem.{each-set}
 use Rattle.layout.specs.Layout.{fileBlocks}
 use Rattle.layout.specs.Lists.{Each, sumOf}
 use Rattle.section.proofs.Nested.{inside}
-use Rattle.section.specs.Limits.{mostFiles}
+use Rattle.section.specs.Limits.{greatestDisk, mostFiles}
 use Rattle.table.specs.Tables.{InPlaces}
 use Rattle.table.specs.declared.Entry.{Entry}
 
 -- i of the n files after the header stand in the array, and the others' bytes start at a place
-pub record FilesAt (s : List ℕ) (n : ℕ) (files : List Entry) (at sum i : ℕ) : Type 0 where
+pub record FilesAt (w : ℕ) (s : List ℕ) (n : ℕ) (files : List Entry) (at sum i : ℕ) : Type 0 where
   pub few : i ≤ n
-  pub meaning : FilesLeft s n at i files ≡ allAccepted (EntriesLeft n (drop 6 s))
+  pub meaning : FilesLeft w s n at i files ≡ allAccepted (EntriesLeft w n (drop (headerSize w) s))
   pub pages : sum ≡ sumOf fileBlocks (filesTo i files)
-  pub most : sum ≤ fieldValues * i
+  pub most : sum ≤ greatestDisk * piecePlaces * i
   pub each : Each InPlaces files
   pub exact : length files ≡ mostFiles
   pub inside : at ≤ length s
 
-pub filled-start : (s : List ℕ) (n : ℕ) (files : List Entry) → 6 ≤ length s → length files ≡ mostFiles
+pub filled-start : (w : ℕ) (s : List ℕ) (n : ℕ) (files : List Entry) → headerSize w ≤ length s → length files
+    ≡ mostFiles
     → Each InPlaces files
-    → FilesAt s n files 6 0 0
-filled-start s n files l x p =
+    → FilesAt w s n files (headerSize w) 0 0
+filled-start w s n files l x p =
     record {
       few = omega arith;
-      meaning = files-start s n files;
+      meaning = files-start w s (headerSize w) n files;
       pages = refl;
       most = omega arith;
       each = p;
@@ -44,18 +46,19 @@ filled-start s n files l x p =
       inside = l;
     }
 
-module _ (s : List ℕ) (n : ℕ) (files : List Entry) (at sum i : ℕ) (f : FilesAt s n files at sum i) where
-  module _ (h : i < n) (few : n ≤ mostFiles) (e : EntryRead) (q : EntryAt (take (length s - at) (drop at s)) e) where
+module _ (w : ℕ) (s : List ℕ) (n : ℕ) (files : List Entry) (at sum i : ℕ) (f : FilesAt w s n files at sum i) where
+  module _ (h : i < n) (few : n ≤ mostFiles) (e : EntryRead)
+      (q : EntryAt w (take (length s - at) (drop at s)) e) where
     pub filled-inside : at + e .size ≤ length s
-    filled-inside = entry-inside s n at i files h e q (f .inside)
+    filled-inside = entry-inside w s n at i files h e q (f .inside)
 
     pub filled-more : e .ok ≡ true
-        → FilesAt s n (set files i (e .entry)) (at + e .size) (sum + e .n) (i + 1)
+        → FilesAt w s n (set files i (e .entry)) (at + e .size) (sum + e .n) (i + 1)
     filled-more o =
         let l : i < length files = omega (arith, f .exact) in
         record {
           few = omega arith;
-          meaning = files-more s n at i files h e q o l ∙ f .meaning;
+          meaning = files-more w s n at i files h e q o l ∙ f .meaning;
           pages =
               ap₂ (λ m n. m + n) (f .pages) (q .pages)
               ∙ sym (files-sum files i (e .entry) l);
@@ -65,12 +68,12 @@ module _ (s : List ℕ) (n : ℕ) (files : List Entry) (at sum i : ℕ) (f : Fil
           inside = filled-inside;
         }
 
-    pub filled-bad : e .ok ≡ false → allAccepted (EntriesLeft n (drop 6 s)) ≡ bad
-    filled-bad o = sym (f .meaning) ∙ files-bad s n at i files h e q o
+    pub filled-bad : e .ok ≡ false → allAccepted (EntriesLeft w n (drop (headerSize w) s)) ≡ bad
+    filled-bad o = sym (f .meaning) ∙ files-bad w s n at i files h e q o
 
-  pub filled-end : i ≡ n → allAccepted (EntriesLeft n (drop 6 s)) ≡ got (filesTo n files) (drop at s)
+  pub filled-end : i ≡ n → allAccepted (EntriesLeft w n (drop (headerSize w) s)) ≡ got (filesTo n files) (drop at s)
   filled-end e =
-      sym (f .meaning) ∙ (ap (λ i. FilesLeft s n at i files) e ∙ files-end s n at files)
+      sym (f .meaning) ∙ (ap (λ i. FilesLeft w s n at i files) e ∙ files-end w s n at files)
 
   pub filled-sum : i ≡ n → sum ≡ sumOf fileBlocks (filesTo n files)
   filled-sum e = f .pages ∙ ap (λ i. sumOf fileBlocks (filesTo i files)) e

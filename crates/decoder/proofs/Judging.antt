@@ -2,10 +2,13 @@
 use mathlib.Core.Bool.{Bool, _&&_, false, true}
 use mathlib.Core.List.{List}
 use mathlib.Core.Path.{_∙_, _≡_, ap, refl, sym}
-use Prim.Native.Nat.{ℕ}
+use Prim.Native.Nat.{_≤_, ℕ}
 use native.Mathlib.Omega.{arith}
 use Rattle.catalogue.specs.Reading.{Reading, got, isSound, judged, readCatalogue, readLayout, sound, unsound}
-use Rattle.catalogue.specs.Version.{version1}
+use Rattle.catalogue.proofs.Versions.{sound-in}
+use Rattle.catalogue.specs.Version.{Served, greatestBlocks}
+use Rattle.catalogue.specs.declared.Version.{Version}
+use Rattle.section.specs.Limits.{heightCount}
 use Rattle.decoder.proofs.Early.{sound-free-few}
 use Rattle.decoder.specs.Loading.{Judged, Ready, allZero, readingOf}
 use Rattle.decoder.specs.declared.Loaded.{Loaded}
@@ -19,8 +22,8 @@ use Rattle.table.specs.declared.Table.{Table}
 abbrev answer : Bool → Layout → Reading
 answer b l = elim b as (λ _. Reading) [ true ↦ sound l | false ↦ unsound ]
 
-module _ (s : List ℕ) (t : Table) (b : Bool) where
-  pub judged-refused : readCatalogue version1 s ≡ unsound → b ≡ false → Judged s t b
+module _ (v : Version) (s : List ℕ) (t : Table) (b : Bool) where
+  pub judged-refused : readCatalogue v s ≡ unsound → b ≡ false → Judged v s t b
   unfolding readingOf
   judged-refused e o =
       record {
@@ -28,28 +31,35 @@ module _ (s : List ℕ) (t : Table) (b : Bool) where
         few-free = λ u. false-true (sym o ∙ u);
       }
 
-  module _ (r : List ℕ) (e : readLayout version1 s ≡ got (layoutOf t) r) where
-    judged-at : readCatalogue version1 s ≡ answer (allZero r && isSound 13 (layoutOf t)) (layoutOf t)
+  module _ (r : List ℕ) (e : readLayout v s ≡ got (layoutOf t) r) where
+    judged-at : readCatalogue v s ≡ answer (allZero r && isSound (v .heights) (layoutOf t)) (layoutOf t)
     unfolding readCatalogue judged
-    judged-at = ap (judged version1) e
+    judged-at = ap (judged v) e
 
-    pub judged-not-zero : allZero r ≡ false → b ≡ false → Judged s t b
+    pub judged-not-zero : allZero r ≡ false → b ≡ false → Judged v s t b
     judged-not-zero z = judged-refused
-        (judged-at ∙ ap (λ c. answer (c && isSound 13 (layoutOf t)) (layoutOf t)) z)
+        (judged-at ∙ ap (λ c. answer (c && isSound (v .heights) (layoutOf t)) (layoutOf t)) z)
 
-    pub judged-zero : allZero r ≡ true → Exact t → b ≡ isSound 13 (layoutOf t) → Judged s t b
+    pub judged-zero : Served v → t .blocks ≤ greatestBlocks v → allZero r ≡ true → Exact t
+        → b ≡ isSound heightCount (layoutOf t) → Judged v s t b
     unfolding readingOf layoutOf
-    judged-zero z x o =
+    judged-zero ser fits z x o′ =
+        let o : b ≡ isSound (v .heights) (layoutOf t) = o′ ∙ sym (sound-in v ser (layoutOf t) fits) in
         record {
           reading =
               ap (λ c. answer c (layoutOf t)) o
-              ∙ sym (judged-at ∙ ap (λ c. answer (c && isSound 13 (layoutOf t)) (layoutOf t)) z);
-          few-free = λ u. omega (arith, x .free, sound-free-few (layoutOf t) (sym o ∙ u));
+              ∙ sym (judged-at ∙ ap (λ c. answer (c && isSound (v .heights) (layoutOf t)) (layoutOf t)) z);
+          few-free = λ u. omega (
+            arith,
+            x .free,
+            sound-free-few (v .heights) (ser .some-heights) (ser .most-heights)
+                (layoutOf t) (sym o ∙ u),
+          );
         }
 
-  module _ (j : Judged s t b) (x : Exact t) where
+  module _ (j : Judged v s t b) (x : Exact t) where
     pub loaded-sound : b ≡ true
-        → (readingOf (record { sound = b; table = t }) ≡ readCatalogue version1 s) × Ready t
+        → (readingOf (record { sound = b; table = t }) ≡ readCatalogue v s) × Ready t
     loaded-sound o = (j .reading, record { exact = x; few-free = j .few-free o })
 
     -- a table that is not sound keeps no free pieces
@@ -63,7 +73,7 @@ module _ (s : List ℕ) (t : Table) (b : Bool) where
         }
 
     pub loaded-none : b ≡ false
-        → (readingOf (record { sound = b; table = emptied }) ≡ readCatalogue version1 s) × Ready emptied
+        → (readingOf (record { sound = b; table = emptied }) ≡ readCatalogue v s) × Ready emptied
     unfolding readingOf filesOf freeOf
     loaded-none o = (
       ap (λ c. answer c (layoutOf emptied)) o ∙ (sym (ap (λ c. answer c (layoutOf t)) o) ∙ j .reading),

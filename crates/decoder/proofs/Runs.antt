@@ -8,8 +8,7 @@ use lib.ListN.{drop, length, set, take}
 use lib.Seq.{append-snoc, length-take-le}
 use Rattle.catalogue.proofs.ReadOnly.{got-value, then-inv}
 use Rattle.catalogue.specs.Reading.{Read, bad, got, readPair, readPairs, then}
-use Rattle.catalogue.specs.Version.{version1}
-use Rattle.decoder.proofs.Places.{drop-same, pair-bad, pair-got}
+use Rattle.decoder.proofs.Places.{pair-bad, pair-got}
 use Rattle.soundness.proofs.Joined.{pushed}
 use Rattle.decoder.specs.Fields.{PairAt, PairsAt, pairsIn, readAfter}
 use Rattle.decoder.specs.declared.PairRead.{PairRead}
@@ -37,85 +36,81 @@ after-more acc a (got l r) = ap (λ z. got z r) (sym (append-snoc acc a l))
 after-more acc a bad = refl
 
 -- as many pairs are read as were asked for
-pub pairs-count : (k w c : ℕ) (bs : List ℕ) (l : List Section) (r : List ℕ) → readPairs c k w bs ≡ got l r
+pub pairs-count : (w c : ℕ) (bs : List ℕ) (l : List Section) (r : List ℕ) → readPairs c w bs ≡ got l r
     → length l ≡ c
 unfolding readPairs
-pairs-count k w zero bs l r e = sym (ap length (got-value [] l bs r e))
-pairs-count k w (suc c) bs l r e =
-    let x = then-inv (readPair k w bs) (λ s r. then (readPairs c k w r) λ l r′. got (s ∷ l) r′) l r e in
-    let y = then-inv (readPairs c k w (x .1)) (λ l r′. got (x .0 ∷ l) r′) l r (x .3) in
+pairs-count w zero bs l r e = sym (ap length (got-value [] l bs r e))
+pairs-count w (suc c) bs l r e =
+    let x = then-inv (readPair w bs) (λ s r. then (readPairs c w r) λ l r′. got (s ∷ l) r′) l r e in
+    let y = then-inv (readPairs c w (x .1)) (λ l r′. got (x .0 ∷ l) r′) l r (x .3) in
     sym (ap length (got-value (x .0 ∷ y .0) l (y .1) r (y .3)))
-    ∙ ap suc (pairs-count k w c (x .1) (y .0) (y .1) (y .2))
+    ∙ ap suc (pairs-count w c (x .1) (y .0) (y .1) (y .2))
 
-abbrev pub PairsLeft : ℕ → List ℕ → Read (List Section)
-PairsLeft c bs = readPairs c (version1 .heights) 2 bs
+abbrev pub PairsLeft : ℕ → ℕ → List ℕ → Read (List Section)
+PairsLeft w c bs = readPairs c w bs
 
-pairs-step : (c : ℕ) (bs : List ℕ) (acc : List Section) (s : Section) (r : List ℕ)
-    → readPair (version1 .heights) 2 bs ≡ got s r
-    → readAfter acc (PairsLeft (suc c) bs) ≡ readAfter (acc ++ (s ∷ [])) (PairsLeft c r)
+pairs-step : (w c : ℕ) (bs : List ℕ) (acc : List Section) (s : Section) (r : List ℕ)
+    → readPair w bs ≡ got s r
+    → readAfter acc (PairsLeft w (suc c) bs) ≡ readAfter (acc ++ (s ∷ [])) (PairsLeft w c r)
 unfolding readPairs
-pairs-step c bs acc s r e =
-    ap (λ z. readAfter acc (then z λ s r. then (PairsLeft c r) λ l r′. got (s ∷ l) r′)) e
-    ∙ after-more acc s (PairsLeft c r)
+pairs-step w c bs acc s r e =
+    ap (λ z. readAfter acc (then z λ s r. then (PairsLeft w c r) λ l r′. got (s ∷ l) r′)) e
+    ∙ after-more acc s (PairsLeft w c r)
 
-pairs-stop : (c : ℕ) (bs : List ℕ) (acc : List Section) → readPair (version1 .heights) 2 bs ≡ bad
-    → readAfter acc (PairsLeft (suc c) bs) ≡ bad
+pairs-stop : (w c : ℕ) (bs : List ℕ) (acc : List Section) → readPair w bs ≡ bad
+    → readAfter acc (PairsLeft w (suc c) bs) ≡ bad
 unfolding readPairs
-pairs-stop c bs acc e = ap (λ z. readAfter acc (then z λ s r. then (PairsLeft c r) λ l r′. got (s ∷ l) r′)) e
+pairs-stop w c bs acc e = ap (λ z. readAfter acc (then z λ s r. then (PairsLeft w c r) λ l r′. got (s ∷ l) r′)) e
 
-pairs-end : (bs : List ℕ) (acc : List Section) → readAfter acc (PairsLeft 0 bs) ≡ got acc bs
+pairs-end : (w : ℕ) (bs : List ℕ) (acc : List Section) → readAfter acc (PairsLeft w 0 bs) ≡ got acc bs
 unfolding readPairs
-pairs-end bs acc = ap (λ z. got z bs) (append-nil acc)
+pairs-end w bs acc = ap (λ z. got z bs) (append-nil acc)
 
--- what is left to read, with i of the pairs from at on in the array
-abbrev pub Left : List ℕ → ℕ → ℕ → ℕ → List Section → Read (List Section)
-Left s at count i items = readAfter (take i items) (PairsLeft (count - i) (drop (at + 4 * i) s))
+-- what is left to read, with i of the pairs in the array and the others' bytes from `next` on
+abbrev pub Left : ℕ → List ℕ → ℕ → ℕ → ℕ → List Section → Read (List Section)
+Left w s count next i items = readAfter (take i items) (PairsLeft w (count - i) (drop next s))
 
-pub left-start : (s : List ℕ) (at count : ℕ) (items : List Section)
-    → Left s at count 0 items ≡ PairsLeft count (drop at s)
-left-start s at count items =
-    after-none (PairsLeft (count - 0) (drop (at + 4 * 0) s))
-    ∙ (ap (λ n. PairsLeft n (drop (at + 4 * 0) s)) zero-less
-    ∙ ap (PairsLeft count) (drop-same s (at + 4 * 0) at (omega arith)))
+pub left-start : (w : ℕ) (s : List ℕ) (at count : ℕ) (items : List Section)
+    → Left w s count at 0 items ≡ PairsLeft w count (drop at s)
+left-start w s at count items =
+    after-none (PairsLeft w (count - 0) (drop at s)) ∙ ap (λ n. PairsLeft w n (drop at s)) zero-less
   where
     zero-less : count - 0 ≡ count
     zero-less = omega arith
 
-module _ (s : List ℕ) (at count i : ℕ) (items : List Section) (h : i < count) (p : PairRead)
-    (q : PairAt s (at + 4 * i) p) where
+module _ (w : ℕ) (s : List ℕ) (count next i : ℕ) (items : List Section) (h : i < count) (p : PairRead)
+    (q : PairAt w s next p) where
   one-less : count - i ≡ suc (count - (i + 1))
   one-less = omega arith
 
   pub left-more : p .ok ≡ true → i < length items
-      → Left s at count (i + 1) (set items i (p .section)) ≡ Left s at count i items
+      → Left w s count (next + 2 * w) (i + 1) (set items i (p .section)) ≡ Left w s count next i items
   left-more e l =
-      ap (λ z. readAfter z (PairsLeft (count - (i + 1)) (drop (at + 4 * (i + 1)) s)))
+      ap (λ z. readAfter z (PairsLeft w (count - (i + 1)) (drop (next + 2 * w) s)))
       (pushed items i (p .section) l)
-      ∙ (ap (λ z. readAfter (take i items ++ (p .section ∷ [])) (PairsLeft (count - (i + 1)) z))
-      (drop-same s (at + 4 * (i + 1)) (at + 4 * i + 4) (omega arith))
       ∙ (sym
-      (pairs-step (count - (i + 1)) (drop (at + 4 * i) s) (take i items) (p .section) (drop (at + 4 * i + 4) s)
+      (pairs-step w (count - (i + 1)) (drop next s) (take i items) (p .section) (drop (next + 2 * w) s)
       (q .meaning ∙ pair-got p _ e))
-      ∙ ap (λ n. readAfter (take i items) (PairsLeft n (drop (at + 4 * i) s))) (sym one-less)))
+      ∙ ap (λ n. readAfter (take i items) (PairsLeft w n (drop next s))) (sym one-less))
 
-  pub left-bad : p .ok ≡ false → Left s at count i items ≡ bad
+  pub left-bad : p .ok ≡ false → Left w s count next i items ≡ bad
   left-bad e =
-      ap (λ n. readAfter (take i items) (PairsLeft n (drop (at + 4 * i) s))) one-less
-      ∙ pairs-stop (count - (i + 1)) (drop (at + 4 * i) s) (take i items) (q .meaning ∙ pair-bad p _ e)
+      ap (λ n. readAfter (take i items) (PairsLeft w n (drop next s))) one-less
+      ∙ pairs-stop w (count - (i + 1)) (drop next s) (take i items) (q .meaning ∙ pair-bad p _ e)
 
-pub left-end : (s : List ℕ) (at count : ℕ) (items : List Section)
-    → Left s at count count items ≡ got (take count items) (drop (at + 4 * count) s)
-left-end s at count items =
-    ap (λ n. readAfter (take count items) (PairsLeft n (drop (at + 4 * count) s))) none-left
-    ∙ pairs-end (drop (at + 4 * count) s) (take count items)
+pub left-end : (w : ℕ) (s : List ℕ) (count next : ℕ) (items : List Section)
+    → Left w s count next count items ≡ got (take count items) (drop next s)
+left-end w s count next items =
+    ap (λ n. readAfter (take count items) (PairsLeft w n (drop next s))) none-left
+    ∙ pairs-end w (drop next s) (take count items)
   where
     none-left : count - count ≡ 0
     none-left = omega arith
 
-pub no-pairs-at : (s : List ℕ) (at n : ℕ) (p : PairsRead) → PairsLeft n (drop at s) ≡ bad
-    → (p .ok ≡ false) × (p .sum ≡ 0) × (p .list .count ≡ 0) → PairsAt s at n p
+pub no-pairs-at : (w : ℕ) (s : List ℕ) (at n : ℕ) (p : PairsRead) → PairsLeft w n (drop at s) ≡ bad
+    → (p .ok ≡ false) × (p .sum ≡ 0) × (p .list .count ≡ 0) → PairsAt w s at n p
 unfolding pairsIn listOf
-no-pairs-at s at n p e k =
+no-pairs-at w s at n p e k =
     record {
       meaning = e ∙ sym (rw (k .0) refl);
       equal = k .1 ∙ sym (ap (λ m. blockCount (take m (p .list .items))) (k .2));
@@ -126,13 +121,13 @@ no-pairs-at s at n p e k =
       inside = λ t. absurd (let z : _≡_ {A = ℕ} 0 1 = cc (t, k .0) in omega arith);
     }
 
-pub some-pairs-at : (s : List ℕ) (at n sum : ℕ) (items : List Section)
-    → PairsLeft n (drop at s) ≡ got (take n items) (drop (at + 4 * n) s)
+pub some-pairs-at : (w : ℕ) (s : List ℕ) (at n sum end : ℕ) (items : List Section)
+    → PairsLeft w n (drop at s) ≡ got (take n items) (drop end s)
     → sum ≡ blockCount (take n items) → sum ≤ greatestDisk * n → n ≤ piecePlaces → n ≤ length items
-    → at + 4 * n ≤ length s
-    → PairsAt s at n (record { ok = true; sum = sum; list = record { count = n; items = items } })
+    → end ≤ length s
+    → PairsAt w s at n (record { ok = true; sum = sum; end = end; list = record { count = n; items = items } })
 unfolding pairsIn listOf
-some-pairs-at s at n sum items e q m h k l =
+some-pairs-at w s at n sum end items e q m h k l =
     record {
       meaning = e;
       equal = q;

@@ -2,13 +2,14 @@
 use mathlib.Core.Bool.{false, true}
 use mathlib.Core.List.{List}
 use mathlib.Core.Path.{_∙_, _≡_, ap, sym}
-use Prim.Native.Nat.{_*_, _+_, _-_, _<_, ℕ}
+use Prim.Native.Nat.{_-_, _<_, ℕ}
 use native.Mathlib.Omega.{arith}
 use lib.Count.{ones}
 use lib.ListN.{drop, length, length-map, take}
 use lib.Seq.{length-take-le}
 use Rattle.catalogue.specs.Reading.{got, readCatalogue, readPairs, unsound}
-use Rattle.catalogue.specs.Version.{version1}
+use Rattle.catalogue.specs.Version.{Served, headerSize}
+use Rattle.catalogue.specs.declared.Version.{Version}
 use Rattle.decoder.proofs.EntryRuns.{EntriesLeft}
 use Rattle.decoder.proofs.Filled.{FilesAt, filled-end, filled-sum}
 use Rattle.soundness.proofs.Joined.{filesTo}
@@ -32,37 +33,39 @@ use Rattle.table.specs.Tables.{fileOf, filesOf, layoutOf}
 use Rattle.table.specs.declared.Entry.{Entry}
 use Rattle.table.specs.declared.Table.{Table}
 
-pub unread-at : (s : List ℕ) (t : TableRead) → readCatalogue version1 s ≡ unsound
+pub unread-at : (v : Version) (s : List ℕ) (t : TableRead) → readCatalogue v s ≡ unsound
     → (t .ok ≡ false) × (t .at ≡ 0) × Exact (t .table)
-    → TableAt s t
-unread-at s t e k =
+    → TableAt v s t
+unread-at v s t e k =
     record {
       refused = λ _. e;
       read = λ o. false-true (sym (k .0) ∙ o);
+      fits = λ o. false-true (sym (k .0) ∙ o);
       counted = λ o. false-true (sym (k .0) ∙ o);
       exact = k .2;
       inside = omega (arith, k .1);
     }
 
-module _ (s : List ℕ) (b k : ℕ) (h : HeaderAt s b k) (files : List Entry) (at sum i : ℕ)
-    (f : FilesAt s k files at sum i) (e : i ≡ k) (n : ℕ) (rest : n ≡ b - sum) where
-  all-files : allAccepted (EntriesLeft k (drop 6 s)) ≡ got (filesTo k files) (drop at s)
-  all-files = filled-end s k files at sum i f e
+module _ (v : Version) (ser : Served v) (s : List ℕ) (b k : ℕ) (h : HeaderAt v s b k) (files : List Entry)
+    (at sum i : ℕ) (f : FilesAt (v .width) s k files at sum i) (e : i ≡ k) (n : ℕ) (rest : n ≡ b - sum) where
+  all-files : allAccepted (EntriesLeft (v .width) k (drop (headerSize (v .width)) s)) ≡ got (filesTo k files)
+      (drop at s)
+  all-files = filled-end (v .width) s k files at sum i f e
 
   free-blocks : n ≡ b - sumOf fileBlocks (filesTo k files)
-  free-blocks = rest ∙ ap (λ m. b - m) (filled-sum s k files at sum i f e)
+  free-blocks = rest ∙ ap (λ m. b - m) (filled-sum (v .width) s k files at sum i f e)
 
-  pub unread-many : piecePlaces < ones n → readCatalogue version1 s ≡ unsound
+  pub unread-many : piecePlaces < ones n → readCatalogue v s ≡ unsound
   unread-many l =
-      many-free-pairs s b k h (filesTo k files) (drop at s) all-files (omega (arith, ap ones free-blocks))
+      many-free-pairs v ser s b k h (filesTo k files) (drop at s) all-files (omega (arith, ap ones free-blocks))
 
-  module _ (x : PairsRead) (z : PairsAt s at (ones n) x) where
-    free-pairs : readPairs (ones (b - sumOf fileBlocks (filesTo k files))) (version1 .heights) 2 (drop at s)
-        ≡ pairsIn x (drop (at + 4 * ones n) s)
-    free-pairs = ap (λ m. readPairs (ones m) (version1 .heights) 2 (drop at s)) (sym free-blocks) ∙ z .meaning
+  module _ (x : PairsRead) (z : PairsAt (v .width) s at (ones n) x) where
+    free-pairs : readPairs (ones (b - sumOf fileBlocks (filesTo k files))) (v .width) (drop at s)
+        ≡ pairsIn x (drop (x .end) s)
+    free-pairs = ap (λ m. readPairs (ones m) (v .width) (drop at s)) (sym free-blocks) ∙ z .meaning
 
-    pub unread-free : x .ok ≡ false → readCatalogue version1 s ≡ unsound
-    unread-free u = bad-free s b k h (filesTo k files) (drop at s) all-files (free-pairs ∙ pairs-bad x _ u)
+    pub unread-free : x .ok ≡ false → readCatalogue v s ≡ unsound
+    unread-free u = bad-free v ser s b k h (filesTo k files) (drop at s) all-files (free-pairs ∙ pairs-bad x _ u)
 
     module _ (free : Free) (w : Lists (x .list .count) (listOf (x .list)) free) where
       abbrev table : Table
@@ -79,19 +82,20 @@ module _ (s : List ℕ) (b k : ℕ) (h : HeaderAt s b k) (files : List Entry) (a
           }
 
       pub table-at : x .ok ≡ true
-          → TableAt s (record { ok = true; sum = sum; free = x .sum; at = at + 4 * ones n; table = table })
+          → TableAt v s (record { ok = true; sum = sum; free = x .sum; at = x .end; table = table })
       unfolding layoutOf filesOf
       table-at u =
           record {
             refused = λ t. false-true (sym t);
             read = λ _.
-                got-layout s b k h (filesTo k files) (drop at s) all-files (freeOf free)
-                (drop (at + 4 * ones n) s)
-                (free-pairs ∙ (pairs-got x _ u ∙ ap (λ l. got l (drop (at + 4 * ones n) s)) (sym (w .list))));
+                got-layout v ser s b k h (filesTo k files) (drop at s) all-files (freeOf free)
+                (drop (x .end) s)
+                (free-pairs ∙ (pairs-got x _ u ∙ ap (λ l. got l (drop (x .end) s)) (sym (w .list))));
+            fits = λ _. h .fits;
             counted = λ _. record {
-              pages-sum = filled-sum s k files at sum i f e;
+              pages-sum = filled-sum (v .width) s k files at sum i f e;
               free-sum = z .equal ∙ sym (ap blockCount (w .list));
-              sound-files = got-sound s b k h (filesTo k files) (drop at s) all-files;
+              sound-files = got-sound v ser s b k h (filesTo k files) (drop at s) all-files;
               free-count = ap length (w .list) ∙ (z .exact ∙ (z .count u ∙ ap ones free-blocks));
             };
             exact = exact-table;

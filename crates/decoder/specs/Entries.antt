@@ -2,17 +2,16 @@
 use mathlib.Core.Path.{_≡_}
 use mathlib.Core.Bool.{Bool, true, false, _&&_}
 use mathlib.Core.List.{List, []}
-use Prim.Native.Nat.{ℕ, _<_, _≤_}
+use Prim.Native.Nat.{ℕ, _*_, _≤_}
 use lib.Dec.{leb, eqb}
 use lib.ListN.{length, drop}
 use Rattle.section.specs.declared.Section.{Section}
+use Rattle.section.specs.Limits.{greatestDisk}
 use Rattle.layout.specs.Layout.{File, blockCount, fileBlocks}
 use Rattle.piece_lists.specs.Few.{piecePlaces}
 use Rattle.table.specs.Tables.{fileOf, piecesIn}
-use Rattle.catalogue.specs.Version.{version1}
 use Rattle.catalogue.specs.Reading.{Read, got, bad, every, soundFile, readEntry}
 use Rattle.soundness.specs.Order.{inOrder}
-use Rattle.decoder.specs.Fields.{fieldBytes, fieldValues}
 use Rattle.decoder.specs.declared.EntryRead.{EntryRead}
 
 -- a file that a sound layout can have, in the places of an entry
@@ -39,10 +38,10 @@ entryIn e r = elim (e .ok) as (λ _. Read File) [ true ↦ got (fileOf (e .entry
 abbrev pub NoFile : EntryRead → Type 0
 NoFile e = (e .ok ≡ false) × (e .n ≡ 0) × (e .size ≡ 0) × (e .entry .count ≡ 0) × (piecesIn (e .entry) ≡ [])
 
--- e is the entry at the front of the bytes
-pub record EntryAt (s : List ℕ) (e : EntryRead) : Type 0 where
-  pub meaning : accepted (readEntry (version1 .heights) fieldBytes s) ≡ entryIn e (drop (e .size) s)
+-- e is the entry at the front of the bytes, with fields of w bytes for numbers of blocks
+pub record EntryAt (w : ℕ) (s : List ℕ) (e : EntryRead) : Type 0 where
+  pub meaning : accepted (readEntry w s) ≡ entryIn e (drop (e .size) s)
   pub pages : e .n ≡ fileBlocks (fileOf (e .entry))
-  pub most : e .n < fieldValues
+  pub most : e .n ≤ greatestDisk * piecePlaces
   pub places : e .entry .count ≤ piecePlaces
   pub inside : e .size ≤ length s

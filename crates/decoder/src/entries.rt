@@ -4,10 +4,12 @@ use crate::fields::read_field;
 use crate::fields::read_pairs;
 use crate::pieces::no_entry;
 use crate::pieces::sorted;
+use catalogue::Version;
 use piece_lists::Pieces;
 use soundness::in_order;
 ghost use mathlib.Core.Path.{_≡_};
 ghost use Prim.Native.Nat.{_≤_};
+ghost use Rattle.catalogue.specs.Version.{widestField};
 ghost use Rattle.layout.specs.Layout.{blockCount};
 ghost use Rattle.piece_lists.specs.Few.{listOf, piecePlaces};
 ghost use Rattle.decoder.specs.Entries.{EntryAt, NoFile, isFile};
@@ -44,19 +46,21 @@ fn no_file() -> EntryRead
 
 // The entry at the front of a part of the catalogue. A file of more pieces than an entry has places is in no sound
 // layout.
-pub fn read_entry(s: &[u8]) -> EntryRead
-    ensures { λ r. ⌜ EntryAt (now (s .entry)) r ⌝ }
+pub fn read_entry(s: &[u8], width: usize) -> EntryRead
+    requires { ⌜ width ≤ widestField ⌝ }
+    ensures { λ r. ⌜ EntryAt width (now (s .entry)) r ⌝ }
 {
-    if s.len() < 4 {
+    let front = Version::SHORT_FIELD + width;
+    if s.len() < front {
         return no_file();
     }
-    let id = read_field(s, 0);
-    let n = read_field(s, 2);
+    let id = read_field(s, 0, Version::SHORT_FIELD);
+    let n = read_field(s, Version::SHORT_FIELD, width);
     let count = u32::count_ones(n) as usize;
-    if 13 < count {
+    if Pieces::PLACES < count {
         return no_file();
     }
-    let pairs = read_pairs(s, 4, count);
+    let pairs = read_pairs(s, front, count, width);
     if !pairs.ok {
         return no_file();
     }
@@ -68,7 +72,7 @@ pub fn read_entry(s: &[u8]) -> EntryRead
     EntryRead {
         ok: true,
         n,
-        size: 4 + 4 * count,
+        size: pairs.end,
         entry,
     }
 }

@@ -1,4 +1,4 @@
-// Fields of two bytes and pairs of fields, read at a place of the catalogue.
+// Fields and pairs of fields, read at a place of the catalogue.
 use crate::PairRead;
 use crate::PairsRead;
 use piece_lists::Pieces;
@@ -9,6 +9,7 @@ ghost use mathlib.Core.Path.{_≡_};
 ghost use mathlib.Core.Bool.{true, false};
 ghost use Prim.Native.Nat.{_+_, _<_, _≤_};
 ghost use lib.ListN.{length};
+ghost use Rattle.catalogue.specs.Version.{widestField};
 ghost use Rattle.piece_lists.specs.Few.{piecePlaces};
 ghost use Rattle.decoder.specs.Fields.{FieldAt, PairAt, PairsAt};
 
@@ -18,12 +19,18 @@ fn wide(x: u8) -> u32
     x as u32
 }
 
-// The field at a place.
-pub fn read_field(s: &[u8], at: usize) -> u32
-    requires { ⌜ at + 2 ≤ length (now s) ⌝ }
-    ensures { λ r. ⌜ FieldAt (now (s .entry)) at r ⌝ }
+// The field of `width` bytes at a place.
+pub fn read_field(s: &[u8], at: usize, width: usize) -> u32
+    requires { ⌜ (at + width ≤ length (now s)) × (width ≤ widestField) ⌝ }
+    ensures { λ r. ⌜ FieldAt width (now (s .entry)) at r ⌝ }
 {
-    wide(s[at]) * 256 + wide(s[at + 1])
+    let mut value: u32 = 0;
+    let mut i: usize = 0;
+    while i < width {
+        value = value * 256 + wide(s[at + i]);
+        i += 1;
+    }
+    value
 }
 
 // A section that stands where there is none.
@@ -48,15 +55,15 @@ fn no_pair() -> PairRead
 }
 
 // The pair at a place, if the bytes reach that far and its length is one.
-fn read_pair(s: &[u8], at: usize) -> PairRead
-    requires { ⌜ at ≤ length (now s) ⌝ }
-    ensures { λ r. ⌜ PairAt (now (s .entry)) at r ⌝ }
+fn read_pair(s: &[u8], at: usize, width: usize) -> PairRead
+    requires { ⌜ (at ≤ length (now s)) × (width ≤ widestField) ⌝ }
+    ensures { λ r. ⌜ PairAt width (now (s .entry)) at r ⌝ }
 {
-    if s.len() - at < 4 {
+    if s.len() - at < 2 * width {
         return no_pair();
     }
-    let first = read_field(s, at);
-    let length = read_field(s, at + 2);
+    let first = read_field(s, at, width);
+    let length = read_field(s, at + width, width);
     let measured = Height::of_length(length);
     match measured {
         Measured::Height(height) => PairRead {
@@ -76,35 +83,39 @@ fn no_pairs() -> PairsRead
     PairsRead {
         ok: false,
         sum: 0,
+        end: 0,
         list: Pieces {
             count: 0,
-            items: [section; 13],
+            items: [section; Pieces::PLACES],
         },
     }
 }
 
 // The pairs from a place on, `count` of them.
-pub fn read_pairs(s: &[u8], at: usize, count: usize) -> PairsRead
-    requires { ⌜ (at ≤ length (now s)) × (count ≤ piecePlaces) ⌝ }
-    ensures { λ r. ⌜ PairsAt (now (s .entry)) at count r ⌝ }
+pub fn read_pairs(s: &[u8], at: usize, count: usize, width: usize) -> PairsRead
+    requires { ⌜ (at ≤ length (now s)) × (count ≤ piecePlaces) × (width ≤ widestField) ⌝ }
+    ensures { λ r. ⌜ PairsAt width (now (s .entry)) at count r ⌝ }
 {
     let section = no_section();
-    let mut items = [section; 13];
+    let mut items = [section; Pieces::PLACES];
     let mut sum: u32 = 0;
+    let mut end = at;
     let mut i: usize = 0;
     while i < count {
-        let pair = read_pair(s, at + 4 * i);
+        let pair = read_pair(s, end, width);
         if !pair.ok {
             return no_pairs();
         }
         let piece = pair.section;
         items[i] = piece;
         sum += pair.length;
+        end += 2 * width;
         i += 1;
     }
     PairsRead {
         ok: true,
         sum,
+        end,
         list: Pieces { count, items },
     }
 }

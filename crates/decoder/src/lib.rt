@@ -1,4 +1,5 @@
 // The bytes of a catalogue: a table is read from them, and refused unless it is sound.
+use catalogue::Version;
 use piece_lists::Pieces;
 use section::Section;
 use soundness::is_sound;
@@ -8,8 +9,7 @@ use tables::read_table;
 use zeros::is_zero_from;
 ghost use mathlib.Core.Path.{_≡_};
 ghost use lib.ListN.{length};
-ghost use Rattle.section.specs.Limits.{catalogueSize};
-ghost use Rattle.catalogue.specs.Version.{version1};
+ghost use Rattle.catalogue.specs.Version.{Served};
 ghost use Rattle.catalogue.specs.Reading.{readCatalogue};
 ghost use Rattle.decoder.specs.Loading.{Judged, Ready, TableAt, readingOf};
 
@@ -26,10 +26,11 @@ pub struct PairRead {
     pub section: Section,
 }
 
-// Pairs in the order of the bytes, if all of them were read, and the sum of their lengths.
+// Pairs in the order of the bytes, if all of them were read, the sum of their lengths, and the place after them.
 pub struct PairsRead {
     pub ok: bool,
     pub sum: u32,
+    pub end: usize,
     pub list: Pieces,
 }
 
@@ -57,9 +58,9 @@ pub struct Loaded {
 }
 
 // Whether what was read is a sound table, with zero bytes alone after it.
-fn is_sound_read(cat: &[u8], read: TableRead) -> bool
-    requires { ⌜ TableAt (now cat) read ⌝ }
-    ensures { λ r. ⌜ Judged (now (cat .entry)) (read .table) r ⌝ }
+fn is_sound_read(cat: &[u8], version: Version, read: TableRead) -> bool
+    requires { ⌜ Served version × TableAt version (now cat) read ⌝ }
+    ensures { λ r. ⌜ Judged version (now (cat .entry)) (read .table) r ⌝ }
 {
     if !read.ok {
         return false;
@@ -73,13 +74,13 @@ fn is_sound_read(cat: &[u8], read: TableRead) -> bool
 
 // The table of a catalogue, if its bytes are sound. One that is not sound keeps no free pieces: the table is passed on
 // in one place, since each one would copy it.
-pub fn load(cat: &[u8]) -> Loaded
-    requires { ⌜ length (now cat) ≡ catalogueSize ⌝ }
-    ensures reading { λ r. ⌜ readingOf r ≡ readCatalogue version1 (now (cat .entry)) ⌝ }
+pub fn load(cat: &[u8], version: Version) -> Loaded
+    requires { ⌜ Served version × (length (now cat) ≡ version .bytes) ⌝ }
+    ensures reading { λ r. ⌜ readingOf r ≡ readCatalogue version (now (cat .entry)) ⌝ }
     ensures ready { λ r. ⌜ Ready (r .table) ⌝ }
 {
-    let read = read_table(cat);
-    let sound = is_sound_read(cat, read);
+    let read = read_table(cat, version);
+    let sound = is_sound_read(cat, version, read);
     let mut table = read.table;
     if !sound {
         let mut free = table.free;

@@ -5,13 +5,17 @@ use crate::fields::no_section;
 use crate::fields::read_field;
 use crate::fields::read_pairs;
 use crate::pieces::no_entry;
+use catalogue::Version;
 use free_pieces::Free;
+use piece_lists::Pieces;
+use section::Height;
+use section::Section;
 use table::Table;
 ghost use mathlib.Core.Path.{_≡_};
 ghost use mathlib.Core.Bool.{true, false};
 ghost use Prim.Native.Nat.{_-_, _≤_};
 ghost use lib.ListN.{length};
-ghost use Rattle.section.specs.Limits.{catalogueSize};
+ghost use Rattle.catalogue.specs.Version.{Served};
 ghost use Rattle.soundness.specs.Counts.{Exact};
 ghost use Rattle.decoder.specs.Loading.{HeaderAt, TableAt};
 
@@ -24,10 +28,10 @@ pub fn no_table() -> Table
     Table {
         blocks: 0,
         count: 0,
-        files: [entry; 64],
+        files: [entry; Section::MOST_FILES],
         free: Free {
             count: 0,
-            items: [section; 26],
+            items: [section; Free::PLACES],
         },
     }
 }
@@ -57,17 +61,18 @@ fn left_free(blocks: u32, sum: u32) -> u32
 
 // The table after the header: the entries, each read from its own part of the catalogue, and the free pairs, which are
 // few in a sound layout. One function fills the array and makes the table, since an array that is passed on is copied.
-fn read_body(cat: &[u8], blocks: u32, count: usize) -> TableRead
-    requires { ⌜ (length (now cat) ≡ catalogueSize) × HeaderAt (now cat) blocks count ⌝ }
-    ensures { λ r. ⌜ TableAt (now (cat .entry)) r ⌝ }
+fn read_body(cat: &[u8], version: Version, blocks: u32, count: usize) -> TableRead
+    requires { ⌜ Served version × (length (now cat) ≡ version .bytes) × HeaderAt version (now cat) blocks count ⌝ }
+    ensures { λ r. ⌜ TableAt version (now (cat .entry)) r ⌝ }
 {
     let blank = no_entry(0);
-    let mut files = [blank; 64];
-    let mut at: usize = 6;
+    let mut files = [blank; Section::MOST_FILES];
+    let width = version.width;
+    let mut at: usize = Version::SHORT_FIELD + width + Version::SHORT_FIELD;
     let mut sum: u32 = 0;
     let mut i: usize = 0;
     while i < count {
-        let read = read_entry(&cat[at..]);
+        let read = read_entry(&cat[at..], width);
         if !read.ok {
             return unread();
         }
@@ -78,10 +83,10 @@ fn read_body(cat: &[u8], blocks: u32, count: usize) -> TableRead
         i += 1;
     }
     let ones = u32::count_ones(left_free(blocks, sum)) as usize;
-    if 13 < ones {
+    if Pieces::PLACES < ones {
         return unread();
     }
-    let pairs = read_pairs(cat, at, ones);
+    let pairs = read_pairs(cat, at, ones, width);
     if !pairs.ok {
         return unread();
     }
@@ -91,7 +96,7 @@ fn read_body(cat: &[u8], blocks: u32, count: usize) -> TableRead
         ok: true,
         sum,
         free: pairs.sum,
-        at: at + 4 * ones,
+        at: pairs.end,
         table: Table {
             blocks,
             count,
@@ -102,18 +107,22 @@ fn read_body(cat: &[u8], blocks: u32, count: usize) -> TableRead
 }
 
 // The table of the catalogue: the header, the entries and the free pairs.
-pub fn read_table(cat: &[u8]) -> TableRead
-    requires { ⌜ length (now cat) ≡ catalogueSize ⌝ }
-    ensures { λ r. ⌜ TableAt (now (cat .entry)) r ⌝ }
+pub fn read_table(cat: &[u8], version: Version) -> TableRead
+    requires { ⌜ Served version × (length (now cat) ≡ version .bytes) ⌝ }
+    ensures { λ r. ⌜ TableAt version (now (cat .entry)) r ⌝ }
 {
-    let version = read_field(cat, 0);
-    if version != 1 {
+    let width = version.width;
+    let number = read_field(cat, 0, Version::SHORT_FIELD);
+    if number != version.number {
         return unread();
     }
-    let blocks = read_field(cat, 2);
-    let count = read_field(cat, 4) as usize;
-    if 64 < count {
+    let blocks = read_field(cat, Version::SHORT_FIELD, width);
+    let count = read_field(cat, Version::SHORT_FIELD + width, Version::SHORT_FIELD) as usize;
+    if Section::MOST_FILES < count {
         return unread();
     }
-    read_body(cat, blocks, count)
+    if version.greatest_blocks() < blocks {
+        return unread();
+    }
+    read_body(cat, version, blocks, count)
 }

@@ -1,13 +1,14 @@
 -- Bytes written one list after another: what stands, and what room is left. Assumes nothing.
 use mathlib.Core.List.{List, [], _++_, _∷_, append-assoc}
 use mathlib.Core.Path.{_∙_, _≡_, ap, ap₂, refl, sym}
-use Prim.Native.Nat.{_%_, _+_, _-_, _/_, _<_, _≤_, suc, zero, ℕ}
-use native.Mathlib.Nat.{div-one}
+use Prim.Native.Nat.{_%_, _+_, _-_, _/_, _<_, _^_, _≤_, suc, zero, ℕ}
+use native.Mathlib.Nat.{div-div-eq-div-mul, div-one, pow-suc, pow-zero}
 use native.Mathlib.Numerals.{add-one}
 use native.Mathlib.Omega.{arith}
-use lib.ListN.{length, length-append, length-set, replicate, set, take}
-use lib.Seq.{append-snoc, take-all, take-suc-set}
-use Rattle.catalogue.specs.Encoding.{bigEndian}
+use lib.ListN.{getD, length, length-append, length-set, replicate, set, take}
+use lib.Seq.{append-snoc, length-take-le, set-at, take-all, take-set-lt, take-suc, take-suc-set}
+use Rattle.catalogue.proofs.Fields.{bigEndian-length}
+use Rattle.catalogue.specs.Encoding.{bigEndian, byteValues}
 use Rattle.encoder.specs.Store.{Room, Written}
 
 pub append-none : (l : List ℕ) → l ++ [] ≡ l
@@ -37,29 +38,82 @@ pub room-right : {cat after : List ℕ} {at r : ℕ} (bs cs : List ℕ) → Writ
     → Room after r cs
 room-right bs cs w h = omega (arith, length-append bs cs, w .next, w .exact)
 
--- two bytes are written
-pub written-field : (cat : List ℕ) (at x : ℕ) → Room cat at (bigEndian 2 x)
-    → Written cat at (bigEndian 2 x) (set (set cat at (x / 256 % 256)) (at + 1) (x % 256)) (at + 2)
+-- ---- a field, from its last byte to its first
+
+-- of the w bytes of x those from place i on stand, the others are as they were, and rest is what is left of x
+pub record FieldFrom (before : List ℕ) (at w x : ℕ) (after : List ℕ) (rest i : ℕ) : Type 0 where
+  pub most : i ≤ w
+  pub exact : length after ≡ length before
+  pub left : rest ≡ x / byteValues ^ (w - i)
+  pub bytes : take (at + w) after ≡ take (at + i) before ++ bigEndian (w - i) x
+
+-- none yet
+pub field-none : (cat : List ℕ) (at w x : ℕ) → FieldFrom cat at w x cat x w
 unfolding bigEndian
-written-field cat at x h = record {
-  next = refl;
-  front = front;
-  exact = simp length-set;
+field-none cat at w x =
+    let e : w - w ≡ 0 = omega arith in
+    record {
+      most = omega arith;
+      exact = refl;
+      left = sym (ap (λ k. x / byteValues ^ k) e ∙ ap (λ k. x / k) (pow-zero byteValues) ∙ div-one x);
+      bytes = sym (ap (λ k. take (at + w) cat ++ bigEndian k x) e ∙ append-none (take (at + w) cat));
+    }
+
+-- one more
+pub field-more : (before after : List ℕ) (at w x rest i : ℕ) {rest′ : ℕ} → Room before at (bigEndian w x) → 0 < i
+    → rest′ ≡ rest / byteValues
+    → FieldFrom before at w x after rest i
+    → FieldFrom before at w x (set after (at + (i - 1)) (rest % byteValues)) rest′ (i - 1)
+unfolding bigEndian
+field-more before after at w x rest i room some up f = record {
+  most = omega arith;
+  exact = length-set after (at + j) (rest % byteValues) ∙ f .exact;
+  left =
+      up
+      ∙ ap (λ n. n / byteValues) (f .left)
+      ∙ div-div-eq-div-mul x (byteValues ^ k) byteValues
+      ∙ ap (λ n. x / n) (sym (pow-suc byteValues k))
+      ∙ ap (λ n. x / byteValues ^ n) e;
+  bytes =
+      take-set-lt (at + w) after (at + j) (rest % byteValues) (omega arith)
+      ∙ ap₂ (λ l n. set l (at + j) (n % byteValues)) (f .bytes ∙ cut) (f .left)
+      ∙ set-at (take (at + j) before) (getD before (at + j) 0) (bigEndian k x) (x / byteValues ^ k % byteValues)
+      (at + j) (length-take-le (at + j) before (omega (arith, bigEndian-length w x)))
+      ∙ ap (λ n. take (at + j) before ++ bigEndian n x) e;
 }
   where
-    l : List ℕ
-    l = set cat at (x / 256 % 256)
+    j : ℕ
+    j = i - 1
 
-    e : at + 2 ≡ suc (suc at)
+    k : ℕ
+    k = w - i
+
+    e : suc k ≡ w - j
     e = omega arith
 
-    front : take (at + 2) (set l (at + 1) (x % 256)) ≡ take at cat ++ (x / 256 % 256 ∷ x / 1 % 256 ∷ [])
-    front =
-        ap₂ (λ m n. take m (set l n (x % 256))) e (add-one at)
-        ∙ take-suc-set l (suc at) (x % 256) (omega (arith, length-set cat at (x / 256 % 256)))
-        ∙ ap (λ m. m ++ (x % 256 ∷ [])) (take-suc-set cat at (x / 256 % 256) (omega arith))
-        ∙ append-snoc (take at cat) (x / 256 % 256) (x % 256 ∷ [])
-        ∙ ap (λ m. take at cat ++ (x / 256 % 256 ∷ m % 256 ∷ [])) (sym (div-one x))
+    n : at + i ≡ suc (at + j)
+    n = omega arith
+
+    cut : take (at + i) before ++ bigEndian k x ≡ take (at + j) before ++ (getD before (at + j) 0 ∷ bigEndian k x)
+    cut =
+        ap (λ m. take m before ++ bigEndian k x) n
+        ∙ ap (λ l. l ++ bigEndian k x) (take-suc before (at + j) 0 (omega (arith, bigEndian-length w x)))
+        ∙ append-snoc (take (at + j) before) (getD before (at + j) 0) (bigEndian k x)
+
+-- all
+pub field-all : (before after : List ℕ) (at w x rest i : ℕ) → i ≡ 0 → FieldFrom before at w x after rest i
+    → Written before at (bigEndian w x) after (at + w)
+field-all before after at w x rest i e f = record {
+  next = omega (arith, bigEndian-length w x);
+  front = f .bytes ∙ ap₂ (λ n k. take n before ++ bigEndian k x) first all;
+  exact = f .exact;
+}
+  where
+    first : at + i ≡ at
+    first = omega arith
+
+    all : w - i ≡ w
+    all = omega arith
 
 -- ---- zero bytes to the end
 

@@ -6,6 +6,8 @@ use lib.ListN.{length, take}
 use Rattle.section.specs.declared.Section.{Section}
 use Rattle.layout.specs.Layout.{Layout}
 use Rattle.catalogue.specs.Encoding.{bigEndian}
+use Rattle.catalogue.specs.Version.{shortField}
+use Rattle.catalogue.specs.declared.Version.{Version}
 
 -- the bytes bs have room from at on
 abbrev pub Room : List ℕ → ℕ → List ℕ → Type 0
@@ -17,9 +19,10 @@ pub record Written (before : List ℕ) (at : ℕ) (bs after : List ℕ) (r : ℕ
   pub front : take r after ≡ take at before ++ bs
   pub exact : length after ≡ length before
 
--- version 1, n blocks and m files
-abbrev pub headerFields : ℕ → ℕ → List ℕ
-headerFields n m = bigEndian 2 1 ++ (bigEndian 2 n ++ bigEndian 2 m)
+-- the version's number, n blocks and m files
+abbrev pub headerFields : Version → ℕ → ℕ → List ℕ
+headerFields v n m =
+    bigEndian shortField (v .number) ++ (bigEndian (v .width) n ++ bigEndian shortField m)
 
 -- the layout of a disk of n blocks with no file, and the free pieces l
 abbrev pub noFiles : ℕ → List Section → Layout

@@ -7,7 +7,7 @@ use native.Mathlib.Omega.{arith}
 use lib.IntN.{ℤ, negsuc, pos}
 use Rattle.layout.specs.Carries.{carries}
 use Rattle.layout.specs.Layout.{fileBlocks, freeBlocks}
-use Rattle.catalogue.specs.Version.{version1}
+use Rattle.section.specs.Limits.{heightCount}
 use Rattle.event_disk.specs.Limit.{WithinCarries}
 use Rattle.manager.specs.Conditions.{Reply, answered, refused}
 use Rattle.evdisk.specs.Codes.{CodeWithinCarries, codeOf}
@@ -26,6 +26,6 @@ pub code-within : (cat : List ℕ) (i : ℕ) (y : Reply) (r : ℤ) → r ≡ cod
     → CodeWithinCarries cat i r
 code-within cat i y r same within l f n rd fd e = go (code-answered y n (sym same ∙ e))
   where
-    go : (y ≡ answered n) ⊎ (n ≡ 0) → n ≤ carries (version1 .heights) (freeBlocks l) (fileBlocks f)
+    go : (y ≡ answered n) ⊎ (n ≡ 0) → n ≤ carries heightCount (freeBlocks l) (fileBlocks f)
     go (inl a) = within l f n rd fd a
     go (inr z) = omega (arith, z)

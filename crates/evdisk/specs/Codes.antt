@@ -7,9 +7,9 @@ use mir.Syntax.{w64}
 use mir.Val.{ofZ, toZ}
 use Rattle.layout.specs.Carries.{carries}
 use Rattle.layout.specs.Layout.{File, Layout, fileBlocks, findFile, found, freeBlocks}
-use Rattle.catalogue.specs.Reading.{readCatalogue, sound}
-use Rattle.catalogue.specs.Version.{version1}
+use Rattle.section.specs.Limits.{heightCount}
 use Rattle.manager.specs.Conditions.{Reply, answered, refused}
+use Rattle.manager.specs.Table.{CatalogueOf}
 
 abbrev pub codeOf : Reply → ℤ
 codeOf (answered n) = pos n
@@ -22,5 +22,5 @@ Signed r = toZ w64 (ofZ w64 r) ≡ r
 -- a number that is no refusal is at most the carries of the free blocks and the blocks of the file i
 abbrev pub CodeWithinCarries : List ℕ → ℕ → ℤ → Type 0
 CodeWithinCarries cat i r =
-    (l : Layout) (f : File) (n : ℕ) → readCatalogue version1 cat ≡ sound l → findFile i (l .files) ≡ found f
-    → r ≡ pos n → n ≤ carries (version1 .heights) (freeBlocks l) (fileBlocks f)
+    (l : Layout) (f : File) (n : ℕ) → CatalogueOf cat l → findFile i (l .files) ≡ found f
+    → r ≡ pos n → n ≤ carries heightCount (freeBlocks l) (fileBlocks f)

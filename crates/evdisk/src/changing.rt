@@ -1,6 +1,5 @@
 // The exported calls that change a catalogue.
 ghost use mathlib.Core.Path.{_≡_};
-ghost use Rattle.catalogue.specs.Version.{version1};
 ghost use Rattle.manager.specs.Outcomes.{addOutcome, formatOutcome, removeOutcome};
 ghost use Rattle.evdisk.specs.Codes.{CodeWithinCarries, codeOf};
 use super::codes::code;
@@ -8,10 +7,10 @@ use super::codes::code;
 // Makes the catalogue that of a disk with no file: the number of blocks.
 #[no_mangle]
 pub extern "C" fn evdisk_format(cat: &mut [u8], disk: &[u8]) -> i64
-    ensures answer { λ r. ⌜ r ≡ codeOf (formatOutcome version1 (now (cat .entry)) (now (disk .entry)) .reply) ⌝ }
+    ensures answer { λ r. ⌜ r ≡ codeOf (formatOutcome (now (cat .entry)) (now (disk .entry)) .reply) ⌝ }
     ensures catalogue { λ _. ⌜ now (cat .exit)
-        ≡ formatOutcome version1 (now (cat .entry)) (now (disk .entry)) .catalogue ⌝ }
-    ensures disk { λ _. ⌜ now (disk .entry) ≡ formatOutcome version1 (now (cat .entry)) (now (disk .entry)) .disk ⌝ }
+        ≡ formatOutcome (now (cat .entry)) (now (disk .entry)) .catalogue ⌝ }
+    ensures disk { λ _. ⌜ now (disk .entry) ≡ formatOutcome (now (cat .entry)) (now (disk .entry)) .disk ⌝ }
 {
     let a = event_disk::format(cat, disk);
     code(a)
@@ -21,11 +20,11 @@ pub extern "C" fn evdisk_format(cat: &mut [u8], disk: &[u8]) -> i64
 #[no_mangle]
 pub extern "C" fn evdisk_add(cat: &mut [u8], disk: &mut [u8], id: u16, content: &[u8]) -> i64
     ensures answer { λ r. ⌜ r
-        ≡ codeOf (addOutcome version1 id (now (content .entry)) (now (cat .entry)) (now (disk .entry)) .reply) ⌝ }
+        ≡ codeOf (addOutcome id (now (content .entry)) (now (cat .entry)) (now (disk .entry)) .reply) ⌝ }
     ensures catalogue { λ _. ⌜ now (cat .exit)
-        ≡ addOutcome version1 id (now (content .entry)) (now (cat .entry)) (now (disk .entry)) .catalogue ⌝ }
+        ≡ addOutcome id (now (content .entry)) (now (cat .entry)) (now (disk .entry)) .catalogue ⌝ }
     ensures disk { λ _. ⌜ now (disk .exit)
-        ≡ addOutcome version1 id (now (content .entry)) (now (cat .entry)) (now (disk .entry)) .disk ⌝ }
+        ≡ addOutcome id (now (content .entry)) (now (cat .entry)) (now (disk .entry)) .disk ⌝ }
 {
     let a = event_disk::add(cat, disk, id, content);
     code(a)
@@ -34,11 +33,11 @@ pub extern "C" fn evdisk_add(cat: &mut [u8], disk: &mut [u8], id: u16, content: 
 // Removes a file: the number of blocks that were copied.
 #[no_mangle]
 pub extern "C" fn evdisk_remove(cat: &mut [u8], disk: &mut [u8], id: u16) -> i64
-    ensures answer { λ r. ⌜ r ≡ codeOf (removeOutcome version1 id (now (cat .entry)) (now (disk .entry)) .reply) ⌝ }
+    ensures answer { λ r. ⌜ r ≡ codeOf (removeOutcome id (now (cat .entry)) (now (disk .entry)) .reply) ⌝ }
     ensures catalogue { λ _. ⌜ now (cat .exit)
-        ≡ removeOutcome version1 id (now (cat .entry)) (now (disk .entry)) .catalogue ⌝ }
+        ≡ removeOutcome id (now (cat .entry)) (now (disk .entry)) .catalogue ⌝ }
     ensures disk { λ _. ⌜ now (disk .exit)
-        ≡ removeOutcome version1 id (now (cat .entry)) (now (disk .entry)) .disk ⌝ }
+        ≡ removeOutcome id (now (cat .entry)) (now (disk .entry)) .disk ⌝ }
     ensures limit { λ r. ⌜ CodeWithinCarries (now (cat .entry)) id r ⌝ }
 {
     let a = event_disk::remove(cat, disk, id);

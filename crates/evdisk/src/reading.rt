@@ -1,6 +1,5 @@
 // The exported calls that change no catalogue and no disk.
 ghost use mathlib.Core.Path.{_≡_};
-ghost use Rattle.catalogue.specs.Version.{version1};
 ghost use Rattle.manager.specs.Outcomes.{breaksReply, checkReply, freeReply, readOutcome};
 ghost use Rattle.evdisk.specs.Codes.{codeOf};
 use super::codes::code;
@@ -9,9 +8,9 @@ use super::codes::code;
 #[no_mangle]
 pub extern "C" fn evdisk_read(cat: &[u8], disk: &[u8], id: u16, first: u64, out: &mut [u8]) -> i64
     ensures answer { λ r. ⌜ r
-        ≡ codeOf (readOutcome version1 id first (now (out .entry)) (now (cat .entry)) (now (disk .entry)) .reply) ⌝ }
+        ≡ codeOf (readOutcome id first (now (out .entry)) (now (cat .entry)) (now (disk .entry)) .reply) ⌝ }
     ensures output { λ _. ⌜ now (out .exit)
-        ≡ readOutcome version1 id first (now (out .entry)) (now (cat .entry)) (now (disk .entry)) .output ⌝ }
+        ≡ readOutcome id first (now (out .entry)) (now (cat .entry)) (now (disk .entry)) .output ⌝ }
 {
     let a = event_disk::read(cat, disk, id, first, out);
     code(a)
@@ -20,7 +19,7 @@ pub extern "C" fn evdisk_read(cat: &[u8], disk: &[u8], id: u16, first: u64, out:
 // The breaks of a file.
 #[no_mangle]
 pub extern "C" fn evdisk_breaks(cat: &[u8], id: u16) -> i64
-    ensures answer { λ r. ⌜ r ≡ codeOf (breaksReply version1 id (now (cat .entry))) ⌝ }
+    ensures answer { λ r. ⌜ r ≡ codeOf (breaksReply id (now (cat .entry))) ⌝ }
 {
     let a = event_disk::breaks(cat, id);
     code(a)
@@ -29,7 +28,7 @@ pub extern "C" fn evdisk_breaks(cat: &[u8], id: u16) -> i64
 // The free blocks.
 #[no_mangle]
 pub extern "C" fn evdisk_free(cat: &[u8]) -> i64
-    ensures answer { λ r. ⌜ r ≡ codeOf (freeReply version1 (now (cat .entry))) ⌝ }
+    ensures answer { λ r. ⌜ r ≡ codeOf (freeReply (now (cat .entry))) ⌝ }
 {
     let a = event_disk::free(cat);
     code(a)
@@ -38,7 +37,7 @@ pub extern "C" fn evdisk_free(cat: &[u8]) -> i64
 // The blocks of the disk, if catalogue and disk are sound.
 #[no_mangle]
 pub extern "C" fn evdisk_check(cat: &[u8], disk: &[u8]) -> i64
-    ensures answer { λ r. ⌜ r ≡ codeOf (checkReply version1 (now (cat .entry)) (now (disk .entry))) ⌝ }
+    ensures answer { λ r. ⌜ r ≡ codeOf (checkReply (now (cat .entry)) (now (disk .entry))) ⌝ }
 {
     let a = event_disk::check(cat, disk);
     code(a)

@@ -1,20 +1,23 @@
 -- What is known once a catalogue was opened, and a changed table stored: the outcome of the call. Assumes nothing.
 use mathlib.Core.Bool.{Bool, false, true}
 use mathlib.Core.List.{List}
-use mathlib.Core.Path.{_∙_, _≡_, ap, refl, sym}
-use Prim.Native.Nat.{ℕ}
+use mathlib.Core.Path.{_∙_, _≡_, ap, refl, subst, sym}
+use Prim.Native.Nat.{_≤_, ℕ}
 use native.Mathlib.Omega.{arith}
 use lib.ListN.{length}
-use Rattle.section.specs.Limits.{catalogueSize}
+use Rattle.section.specs.Limits.{heightCount}
+use Rattle.layout.proofs.SoundHeights.{sound-higher, sound-lower}
+use Rattle.layout.specs.Sound.{Sound}
 use Rattle.looking.specs.Answers.{replyOf}
 use Rattle.looking.specs.declared.Answer.{Answer}
 use Rattle.looking.specs.declared.Answer.the-variants as Answer·
 use Rattle.calls.specs.Changing.{Makes}
 use Rattle.calls.specs.declared.Changed.{Changed}
 use Rattle.catalogue.proofs.Reading.{read-sound}
-use Rattle.catalogue.proofs.Roomy.{version1-roomy}
+use Rattle.catalogue.proofs.Roomy.{roomy, version-of-one}
 use Rattle.catalogue.specs.Reading.{readCatalogue, sound}
-use Rattle.catalogue.specs.Version.{version1}
+use Rattle.catalogue.specs.Version.{OneOf, greatestBlocks, versionOf, versions}
+use Rattle.catalogue.specs.declared.Version.{Version}
 use Rattle.soundness.specs.Counts.{Exact}
 use Rattle.decoder.proofs.Judging.{reading-none, reading-sound}
 use Rattle.decoder.specs.Loading.{readingOf}
@@ -30,37 +33,74 @@ use Rattle.event_disk.specs.Opening.{Entered, Opens, Shut, Stores}
 pub never : {A : Type 0} → false ≡ true → A
 never e = absurd (let z : _≡_ {A = ℕ} 0 1 = cc in omega arith)
 
-pub opens-wrong : (cat : List ℕ) (t : Table) → (length cat ≡ catalogueSize → ⊥)
-    → Opens cat (record { entered = false; refusal = Answer·.CatalogueLength; table = t })
-opens-wrong cat t n = record {
+pub opens-wrong : (cat : List ℕ) (v : Version) (t : Table) → v ≡ versionOf cat → (length cat ≡ v .bytes → ⊥)
+    → Opens cat (record { entered = false; refusal = Answer·.CatalogueLength; version = v; table = t })
+opens-wrong cat v t same n = record {
+  version = same;
   entered = λ e. never e;
-  shut = λ _. record { number = 1; reply = refl; first = wrong-length version1 cat n };
+  shut = λ _. record {
+    number = 1;
+    reply = refl;
+    first = wrong-length (versionOf cat) cat (λ e. n (e ∙ ap (λ (u : Version). u .bytes) (sym same)));
+  };
 }
 
-module _ (cat : List ℕ) (l : Loaded) (rd : readingOf l ≡ readCatalogue version1 cat) (ex : Exact (l .table))
-    (bytes : length cat ≡ catalogueSize) where
-  loaded-entered : l .sound ≡ true → Entered cat (l .table)
-  loaded-entered e = record {
-    bytes = bytes;
-    reading = sym rd ∙ reading-sound l e;
-    opened = record {
-      rules = read-sound version1 version1-roomy cat (layoutOf (l .table)) (sym rd ∙ reading-sound l e);
-      sized = ex .sized;
-      array = ex .array;
-      files = ex .files;
-      free = ex .free;
-    };
-  }
+module _ (cat : List ℕ) (v : Version) (same : v ≡ versionOf cat) (l : Loaded)
+    (rd : readingOf l ≡ readCatalogue v cat) (ex : Exact (l .table)) (long : length cat ≡ v .bytes) where
+  bytes : length cat ≡ versionOf cat .bytes
+  bytes = long ∙ ap (λ (u : Version). u .bytes) same
 
-  pub opens-loaded : Opens cat (record { entered = l .sound; refusal = Answer·.NotSound; table = l .table })
+  own : readingOf l ≡ readCatalogue (versionOf cat) cat
+  own = rd ∙ ap (λ u. readCatalogue u cat) same
+
+  known : OneOf (versionOf cat) versions
+  known = version-of-one (length cat)
+
+  loaded-entered : l .sound ≡ true → Entered cat (l .table)
+  loaded-entered e =
+      let rules = read-sound (versionOf cat) (roomy known) cat (layoutOf (l .table)) (sym own ∙ reading-sound l e) in
+      record {
+        bytes = bytes;
+        reading = sym own ∙ reading-sound l e;
+        rules = rules;
+        opened = record {
+          rules =
+              sound-higher (versionOf cat .heights) heightCount (layoutOf (l .table))
+              (roomy known .served .most-heights) rules;
+          sized = ex .sized;
+          array = ex .array;
+          files = ex .files;
+          free = ex .free;
+        };
+      }
+
+  pub opens-loaded : Opens cat (record {
+    entered = l .sound;
+    refusal = Answer·.NotSound;
+    version = v;
+    table = l .table;
+  })
   opens-loaded = record {
+    version = same;
     entered = loaded-entered;
     shut = λ e. record {
       number = 3;
       reply = refl;
-      first = not-sound version1 cat bytes (sym rd ∙ reading-none l e);
+      first = not-sound (versionOf cat) cat bytes (sym own ∙ reading-none l e);
     };
   }
+
+-- ---- storing
+
+-- what a call made of an entered table is sound in the catalogue's version, since C stays
+pub own-rules : (cat : List ℕ) (t : Table) → Entered cat t → {o : Version → List ℕ → Outcome} {d′ : List ℕ}
+    (r : Changed)
+    → Makes (t .blocks) o d′ r → r .changed ≡ true → Sound (versionOf cat .heights) (layoutOf (r .table))
+unfolding layoutOf
+own-rules cat t x r m e =
+    sound-lower (versionOf cat .heights) heightCount (layoutOf (r .table))
+    (omega (arith, roomy (version-of-one (length cat)) .some-heights))
+    (subst (λ n. n ≤ greatestBlocks (versionOf cat)) (sym (m .blocks e)) (x .rules .most-blocks)) (m .rules e)
 
 -- ---- the outcomes
 
@@ -76,17 +116,17 @@ shut-out cat d out a s full e = (
 )
 
 -- a call whose outcome is `full`, which past the catalogue is o
-module _ (o : List ℕ → Outcome) (cat cat′ d′ : List ℕ) (r : Changed) (m : Makes o d′ r) (st : Stores r cat cat′)
-    (full : Outcome) (eq : full ≡ o cat) where
+module _ (b : ℕ) (o : Version → List ℕ → Outcome) (cat cat′ d′ : List ℕ) (r : Changed) (m : Makes b o d′ r)
+    (st : Stores r cat cat′) (full : Outcome) (eq : full ≡ o (versionOf cat) cat) where
   pub made-reply : replyOf (r .answer) ≡ full .reply
-  made-reply = m .answer cat ∙ sym (ap (λ x. x .reply) eq)
+  made-reply = m .answer (versionOf cat) cat ∙ sym (ap (λ x. x .reply) eq)
 
   pub made-disk : d′ ≡ full .disk
-  made-disk = m .disk cat ∙ sym (ap (λ x. x .disk) eq)
+  made-disk = m .disk (versionOf cat) cat ∙ sym (ap (λ x. x .disk) eq)
 
   pub made-catalogue : cat′ ≡ full .catalogue
   made-catalogue = by (r .changed) refl ∙ sym (ap (λ x. x .catalogue) eq)
     where
-      by : (b : Bool) → r .changed ≡ b → cat′ ≡ o cat .catalogue
-      by true e = st .stored e ∙ m .stored e cat
-      by false e = st .kept e ∙ m .kept e cat
+      by : (b : Bool) → r .changed ≡ b → cat′ ≡ o (versionOf cat) cat .catalogue
+      by true e = st .stored e ∙ m .stored e (versionOf cat) cat
+      by false e = st .kept e ∙ m .kept e (versionOf cat) cat

@@ -2,14 +2,14 @@
 use mathlib.Core.Path.{_≡_}
 use mathlib.Core.List.{List}
 use Prim.Native.Nat.{ℕ, _≤_}
+use Rattle.section.specs.Limits.{heightCount}
 use Rattle.layout.specs.Carries.{carries}
 use Rattle.layout.specs.Layout.{File, Layout, fileBlocks, findFile, found, freeBlocks}
-use Rattle.catalogue.specs.Reading.{readCatalogue, sound}
-use Rattle.catalogue.specs.Version.{version1}
 use Rattle.manager.specs.Conditions.{Reply, answered}
+use Rattle.manager.specs.Table.{CatalogueOf}
 
 -- an answered number is at most the carries of the free blocks and the blocks of the file i
 abbrev pub WithinCarries : List ℕ → ℕ → Reply → Type 0
 WithinCarries cat i r =
-    (l : Layout) (f : File) (n : ℕ) → readCatalogue version1 cat ≡ sound l → findFile i (l .files) ≡ found f
-    → r ≡ answered n → n ≤ carries (version1 .heights) (freeBlocks l) (fileBlocks f)
+    (l : Layout) (f : File) (n : ℕ) → CatalogueOf cat l → findFile i (l .files) ≡ found f
+    → r ≡ answered n → n ≤ carries heightCount (freeBlocks l) (fileBlocks f)

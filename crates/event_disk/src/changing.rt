@@ -1,6 +1,5 @@
 // The calls that change a catalogue: it is loaded once, and stored once if its table is another one then.
 ghost use mathlib.Core.Path.{_≡_};
-ghost use Rattle.catalogue.specs.Version.{version1};
 ghost use Rattle.manager.specs.Outcomes.{addOutcome, removeOutcome};
 ghost use Rattle.looking.specs.Answers.{replyOf};
 ghost use Rattle.event_disk.specs.Limit.{WithinCarries};
@@ -11,35 +10,37 @@ use looking::Answer;
 // Adds a file with the pages of `content`, and answers how many there are.
 pub fn add(cat: &mut [u8], disk: &mut [u8], id: u16, content: &[u8]) -> Answer
     ensures answer { λ r. ⌜ replyOf r
-        ≡ addOutcome version1 id (now (content .entry)) (now (cat .entry)) (now (disk .entry)) .reply ⌝ }
+        ≡ addOutcome id (now (content .entry)) (now (cat .entry)) (now (disk .entry)) .reply ⌝ }
     ensures catalogue { λ _. ⌜ now (cat .exit)
-        ≡ addOutcome version1 id (now (content .entry)) (now (cat .entry)) (now (disk .entry)) .catalogue ⌝ }
+        ≡ addOutcome id (now (content .entry)) (now (cat .entry)) (now (disk .entry)) .catalogue ⌝ }
     ensures disk { λ _. ⌜ now (disk .exit)
-        ≡ addOutcome version1 id (now (content .entry)) (now (cat .entry)) (now (disk .entry)) .disk ⌝ }
+        ≡ addOutcome id (now (content .entry)) (now (cat .entry)) (now (disk .entry)) .disk ⌝ }
 {
     let o = open(cat);
     if !o.entered {
         return o.refusal;
     }
+    let version = o.version;
     let table = o.table;
     let r = calls::add_in(disk, table, id, content);
-    store_changed(cat, r)
+    store_changed(cat, version, r)
 }
 
 // Removes the file of an id, and answers how many blocks were copied.
 pub fn remove(cat: &mut [u8], disk: &mut [u8], id: u16) -> Answer
-    ensures answer { λ r. ⌜ replyOf r ≡ removeOutcome version1 id (now (cat .entry)) (now (disk .entry)) .reply ⌝ }
+    ensures answer { λ r. ⌜ replyOf r ≡ removeOutcome id (now (cat .entry)) (now (disk .entry)) .reply ⌝ }
     ensures catalogue { λ _. ⌜ now (cat .exit)
-        ≡ removeOutcome version1 id (now (cat .entry)) (now (disk .entry)) .catalogue ⌝ }
+        ≡ removeOutcome id (now (cat .entry)) (now (disk .entry)) .catalogue ⌝ }
     ensures disk { λ _. ⌜ now (disk .exit)
-        ≡ removeOutcome version1 id (now (cat .entry)) (now (disk .entry)) .disk ⌝ }
+        ≡ removeOutcome id (now (cat .entry)) (now (disk .entry)) .disk ⌝ }
     ensures limit { λ r. ⌜ WithinCarries (now (cat .entry)) id (replyOf r) ⌝ }
 {
     let o = open(cat);
     if !o.entered {
         return o.refusal;
     }
+    let version = o.version;
     let table = o.table;
     let r = calls::remove_in(disk, table, id);
-    store_changed(cat, r)
+    store_changed(cat, version, r)
 }

@@ -5,6 +5,7 @@ mod changing;
 mod formatting;
 mod reading;
 
+use catalogue::Version;
 pub use changing::add;
 pub use changing::remove;
 pub use formatting::format;
@@ -15,9 +16,10 @@ pub use reading::free;
 pub use reading::read;
 use table::Table;
 
-// The table of a catalogue, if it could be entered, or the refusal.
+// The table of a catalogue, if it could be entered, or the refusal; and its version.
 pub struct Opening {
     pub entered: bool,
     pub refusal: Answer,
+    pub version: Version,
     pub table: Table,
 }

@@ -1,6 +1,5 @@
 // The calls that change no catalogue: it is loaded once, and the call answers from its table.
 ghost use mathlib.Core.Path.{_≡_};
-ghost use Rattle.catalogue.specs.Version.{version1};
 ghost use Rattle.manager.specs.Outcomes.{breaksReply, checkReply, freeReply, readOutcome};
 ghost use Rattle.looking.specs.Answers.{replyOf};
 use crate::catalogues::open;
@@ -9,9 +8,9 @@ use looking::Answer;
 // Fills the output with the pages of a file from `first` on, and answers how many.
 pub fn read(cat: &[u8], disk: &[u8], id: u16, first: u64, out: &mut [u8]) -> Answer
     ensures answer { λ r. ⌜ replyOf r
-        ≡ readOutcome version1 id first (now (out .entry)) (now (cat .entry)) (now (disk .entry)) .reply ⌝ }
+        ≡ readOutcome id first (now (out .entry)) (now (cat .entry)) (now (disk .entry)) .reply ⌝ }
     ensures output { λ _. ⌜ now (out .exit)
-        ≡ readOutcome version1 id first (now (out .entry)) (now (cat .entry)) (now (disk .entry)) .output ⌝ }
+        ≡ readOutcome id first (now (out .entry)) (now (cat .entry)) (now (disk .entry)) .output ⌝ }
 {
     let o = open(cat);
     if !o.entered {
@@ -23,7 +22,7 @@ pub fn read(cat: &[u8], disk: &[u8], id: u16, first: u64, out: &mut [u8]) -> Ans
 
 // Answers how many breaks a file has.
 pub fn breaks(cat: &[u8], id: u16) -> Answer
-    ensures answer { λ r. ⌜ replyOf r ≡ breaksReply version1 id (now (cat .entry)) ⌝ }
+    ensures answer { λ r. ⌜ replyOf r ≡ breaksReply id (now (cat .entry)) ⌝ }
 {
     let o = open(cat);
     if !o.entered {
@@ -35,7 +34,7 @@ pub fn breaks(cat: &[u8], id: u16) -> Answer
 
 // Answers how many blocks are free.
 pub fn free(cat: &[u8]) -> Answer
-    ensures answer { λ r. ⌜ replyOf r ≡ freeReply version1 (now (cat .entry)) ⌝ }
+    ensures answer { λ r. ⌜ replyOf r ≡ freeReply (now (cat .entry)) ⌝ }
 {
     let o = open(cat);
     if !o.entered {
@@ -48,7 +47,7 @@ pub fn free(cat: &[u8]) -> Answer
 
 // Answers how many blocks the disk has, if it is as long as the catalogue says.
 pub fn check(cat: &[u8], disk: &[u8]) -> Answer
-    ensures answer { λ r. ⌜ replyOf r ≡ checkReply version1 (now (cat .entry)) (now (disk .entry)) ⌝ }
+    ensures answer { λ r. ⌜ replyOf r ≡ checkReply (now (cat .entry)) (now (disk .entry)) ⌝ }
 {
     let o = open(cat);
     if !o.entered {

@@ -14,7 +14,7 @@ use Rattle.layout.proofs.Splitting.{Stock, TakesPiece, TakesPieceOf, at-most-on
 use Rattle.layout.specs.Adding.{Taken, nothing, orElse, splitAt, takeOfHeight, takePiece, taken}
 use Rattle.layout.specs.Layout.{byFirst}
 use Rattle.layout.specs.Lists.{insertBy, sumOf}
-use Rattle.section.specs.Limits.{greatestDisk, greatestHeight}
+use Rattle.section.specs.Limits.{greatestDisk, greatestHeight, heightCount}
 use Rattle.section.specs.Sections.{lengthOf, section}
 use Rattle.section.specs.declared.Section.{Section}
 use Rattle.free_pieces.proofs.Draws.{drawn-not, drawn-there}
@@ -75,12 +75,12 @@ pub stock-of : {f : Free} → Stocked f → Stock greatestDisk (freeOf f)
 stock-of s = record { disk = s .disk; rising = s .rising; thin = s .distinct }
 
 -- free pieces of distinct lengths are at most as many as there are heights
-pub stock-few : {l : List Section} → Stock greatestDisk l → length l ≤ suc greatestHeight
+pub stock-few : {l : List Section} → Stock greatestDisk l → length l ≤ heightCount
 stock-few {l} s =
-    let low : sumOf lengthOf l < 2 ^ suc greatestHeight =
-    at-most-one-small greatestDisk (suc greatestHeight)
-    (each-imp (λ a d. height-lt greatestDisk (suc greatestHeight) (omega arith) a d) (s .disk)) (s .thin) in
-    omega (arith, at-most-one-ones l (s .thin), ones-le (suc greatestHeight) (sumOf lengthOf l) low)
+    let low : sumOf lengthOf l < 2 ^ heightCount =
+    at-most-one-small greatestDisk heightCount
+    (each-imp (λ a d. height-lt greatestDisk heightCount (omega arith) a d) (s .disk)) (s .thin) in
+    omega (arith, at-most-one-ones l (s .thin), ones-le heightCount (sumOf lengthOf l) low)
 
 -- what was taken is on the disk, and what is left is stock
 pub took : (k h : ℕ) (free : Free) (d : Drawn) → Stocked free → takenOf d ≡ takePiece k h (freeOf free)

@@ -6,9 +6,10 @@ use Prim.Native.Nat.{_+_, _-_, _≤_, suc, zero, ℕ}
 use native.Mathlib.Numerals.{add-one}
 use native.Mathlib.Omega.{arith}
 use lib.ListN.{replicate}
+use Rattle.piece_lists.specs.Few.{piecePlaces}
 use Rattle.layout.specs.Adding.{Allocated, Taken, allocate, allocated, nothing, takePiece, taken, tooFew, withPiece}
 use Rattle.layout.specs.Layout.{digit}
-use Rattle.section.specs.Limits.{greatestHeight}
+use Rattle.section.specs.Limits.{greatestHeight, heightCount}
 use Rattle.section.specs.Sections.{section}
 use Rattle.section.specs.declared.Section.{Section}
 use Rattle.free_pieces.proofs.Draws.{drawn-not, drawn-there}
@@ -31,7 +32,7 @@ withPieces (s ∷ l) p = withPiece s (withPieces l p)
 unfoldable pub onward : ℕ → ℕ → Laid → Allocated
 onward n h p =
     elim (p .ok) as (λ _. Allocated) [
-      | true ↦ withPieces (laidPieces p) (allocate (suc greatestHeight - h) h n (freeOf (p .free)))
+      | true ↦ withPieces (laidPieces p) (allocate (heightCount - h) h n (freeOf (p .free)))
       | false ↦ tooFew
     ]
 
@@ -54,7 +55,7 @@ with-none (a ∷ l) r = ap (withPiece a) (with-none l r)
 -- ---- one height
 
 onward-ok : (n h : ℕ) (p : Laid) → p .ok ≡ true
-    → onward n h p ≡ withPieces (laidPieces p) (allocate (suc greatestHeight - h) h n (freeOf (p .free)))
+    → onward n h p ≡ withPieces (laidPieces p) (allocate (heightCount - h) h n (freeOf (p .free)))
 unfolding onward
 onward-ok n h p e = rw e
 
@@ -66,7 +67,7 @@ onward-not n h p e = rw e
 after : ℕ → ℕ → Taken → Allocated
 after n h t =
     elim t as (λ _. Allocated) [
-      | taken s r ↦ withPiece s (allocate (suc greatestHeight - h) h n r)
+      | taken s r ↦ withPiece s (allocate (heightCount - h) h n r)
       | nothing ↦ tooFew
     ]
 
@@ -75,18 +76,18 @@ module _ (n h : ℕ) (l : h ≤ greatestHeight) (free : List Section) where
   from : ℕ → Allocated
   from b =
       elim b as (λ _. Allocated) [
-        | zero ↦ allocate (suc greatestHeight - h) h n free
+        | zero ↦ allocate (heightCount - h) h n free
         | suc _ ↦ after n h (takePiece (greatestHeight - h) h free)
       ]
 
-  step : allocate (suc greatestHeight - (h + 1)) (h + 1) n free ≡ from (digit h n)
+  step : allocate (heightCount - (h + 1)) (h + 1) n free ≡ from (digit h n)
   unfolding allocate from after
   step =
-      let e : suc greatestHeight - (h + 1) ≡ greatestHeight - h = omega arith in
-      let f : suc (greatestHeight - h) ≡ suc greatestHeight - h = omega arith in
+      let e : heightCount - (h + 1) ≡ greatestHeight - h = omega arith in
+      let f : suc (greatestHeight - h) ≡ heightCount - h = omega arith in
       ap₂ (λ x y. allocate x y n free) e (add-one h) ∙ go f
     where
-      go : suc (greatestHeight - h) ≡ suc greatestHeight - h
+      go : suc (greatestHeight - h) ≡ heightCount - h
           → allocate (greatestHeight - h) (suc h) n free ≡ from (digit h n)
       go f =
           ap (λ k. elim (digit h n) as (λ _. Allocated) [
@@ -98,12 +99,12 @@ module _ (n h : ℕ) (l : h ≤ greatestHeight) (free : List Section) where
           ]) f
 
   skip : digit h n ≡ 0
-      → allocate (suc greatestHeight - (h + 1)) (h + 1) n free ≡ allocate (suc greatestHeight - h) h n free
+      → allocate (heightCount - (h + 1)) (h + 1) n free ≡ allocate (heightCount - h) h n free
   unfolding from
   skip e = step ∙ ap from e
 
   take-one : digit h n ≡ 1
-      → allocate (suc greatestHeight - (h + 1)) (h + 1) n free
+      → allocate (heightCount - (h + 1)) (h + 1) n free
       ≡ after n h (takePiece (greatestHeight - h) h free)
   unfolding from
   take-one e = step ∙ ap from e
@@ -136,8 +137,8 @@ onward-take n h p r d l e b m x = go (d .found) refl
     go : (t : Bool) → d .found ≡ t → onward n h r ≡ onward n (h + 1) p
     go true f =
         onward-ok n h r (x .ok ∙ f)
-        ∙ (ap₂ (λ a z. withPieces a (allocate (suc greatestHeight - h) h n (freeOf z))) (x .list f) (x .left f)
-        ∙ (with-last (laidPieces p) (d .section) (allocate (suc greatestHeight - h) h n (freeOf (d .rest)))
+        ∙ (ap₂ (λ a z. withPieces a (allocate (heightCount - h) h n (freeOf z))) (x .list f) (x .left f)
+        ∙ (with-last (laidPieces p) (d .section) (allocate (heightCount - h) h n (freeOf (d .rest)))
         ∙ (ap (λ z. withPieces (laidPieces p) (after n h z)) (sym (drawn-there d f) ∙ m) ∙ sym now)))
     go false f =
         onward-not n h r (x .ok ∙ f)
@@ -158,21 +159,21 @@ pub onward-end : (n h : ℕ) (p : Laid) → h ≡ 0 → allocatedOf p ≡ onward
 unfolding allocatedOf onward allocate
 onward-end n h p e = go (p .ok)
   where
-    at-0 : allocate (suc greatestHeight - h) h n (freeOf (p .free)) ≡ allocated [] (freeOf (p .free))
-    at-0 = ap (λ z. allocate (suc greatestHeight - h) z n (freeOf (p .free))) e
+    at-0 : allocate (heightCount - h) h n (freeOf (p .free)) ≡ allocated [] (freeOf (p .free))
+    at-0 = ap (λ z. allocate (heightCount - h) z n (freeOf (p .free))) e
 
     go : (t : Bool)
         → _≡_ {A = Allocated}
         (elim t as (λ _. Allocated) [ true ↦ allocated (laidPieces p) (freeOf (p .free)) | false ↦ tooFew ])
         (elim t as (λ _. Allocated) [
-          | true ↦ withPieces (laidPieces p) (allocate (suc greatestHeight - h) h n (freeOf (p .free)))
+          | true ↦ withPieces (laidPieces p) (allocate (heightCount - h) h n (freeOf (p .free)))
           | false ↦ tooFew
         ])
     go true = sym (ap (withPieces (laidPieces p)) at-0 ∙ with-none (laidPieces p) (freeOf (p .free)))
     go false = refl
 
 pub onward-start : (n : ℕ) (f : Free)
-    → onward n 13 (record { ok = true; count = 0; items = replicate 13 (section 0 0); free = f })
-    ≡ allocate 0 (suc greatestHeight) n (freeOf f)
+    → onward n heightCount (record { ok = true; count = 0; items = replicate piecePlaces (section 0 0); free = f })
+    ≡ allocate 0 heightCount n (freeOf f)
 unfolding onward withPieces
 onward-start n f = refl

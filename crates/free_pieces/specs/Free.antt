@@ -2,18 +2,19 @@
 use mathlib.Core.Path.{_≡_}
 use mathlib.Core.Bool.{true, false}
 use mathlib.Core.List.{List}
-use Prim.Native.Nat.{ℕ, zero, suc, _+_, _≤_}
+use Prim.Native.Nat.{ℕ, zero, suc, _+_, _*_, _≤_}
 use lib.ListN.{length, take}
 use Rattle.section.specs.declared.Section.{Section}
 use Rattle.layout.specs.Adding.{Taken, taken, nothing}
 use Rattle.layout.specs.Removing.{MergePair, pair, fewer, mergePair}
+use Rattle.piece_lists.specs.Few.{piecePlaces}
 use Rattle.free_pieces.specs.declared.Drawn.{Drawn}
 use Rattle.free_pieces.specs.declared.Free.{Free}
 use Rattle.free_pieces.specs.declared.Pair.{Pair}
 
--- the places for free pieces
+-- the places for free pieces: between a release and its merges those of the file stand beside the others
 abbrev pub freePlaces : ℕ
-freePlaces = 26
+freePlaces = 2 * piecePlaces
 
 -- the free pieces
 unfoldable pub freeOf : Free → List Section

@@ -1,6 +1,5 @@
 // The pieces of a new file: one for each 1 of its number of blocks, taken from the free pieces, the longest first.
-ghost use Prim.Native.Nat.{suc};
-ghost use Rattle.section.specs.Limits.{greatestHeight};
+ghost use Rattle.section.specs.Limits.{heightCount};
 ghost use Rattle.layout.specs.Adding.{allocate};
 ghost use Rattle.free_pieces.specs.Free.{freeOf};
 ghost use Rattle.free_pieces.specs.Taking.{Stocked};
@@ -8,13 +7,14 @@ ghost use Rattle.free_pieces.specs.Allocating.{Allots};
 use super::taking::take_piece;
 use crate::Free;
 use crate::Laid;
+use piece_lists::Pieces;
 use section::Height;
 use section::Section;
 
 // A piece for each 1 of `n`, from the highest down.
 pub fn allocate(free: Free, n: u32) -> Laid
     requires { ⌜ Stocked free ⌝ }
-    ensures { λ r. ⌜ Allots (allocate 0 (suc greatestHeight) n (freeOf free)) r ⌝ }
+    ensures { λ r. ⌜ Allots (allocate 0 heightCount n (freeOf free)) r ⌝ }
 {
     let s = Section {
         first: 0,
@@ -23,7 +23,7 @@ pub fn allocate(free: Free, n: u32) -> Laid
     let mut laid = Laid {
         ok: true,
         count: 0,
-        items: [s; 13],
+        items: [s; Pieces::PLACES],
         free,
     };
     let mut h: u32 = Height::GREATEST + 1;

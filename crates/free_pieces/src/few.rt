@@ -1,5 +1,4 @@
-// Lists with few pieces: the free pieces of a sound layout in as many places as they need, and back. A list of this
-// size is passed on without a call to copy it.
+// Lists with few pieces: the free pieces of a sound layout in as many places as they need, and back.
 ghost use Prim.Native.Nat.{_≤_};
 ghost use Rattle.piece_lists.specs.Few.{listOf, piecePlaces, ListsFew};
 ghost use Rattle.free_pieces.specs.Free.{freeOf, Lists};
@@ -19,7 +18,7 @@ impl Free {
             height: Height { value: 0 },
         };
         let count = self.count;
-        let mut items = [s; 13];
+        let mut items = [s; Pieces::PLACES];
         let mut j: usize = 0;
         while j < count {
             let piece = self.items[j];
@@ -39,7 +38,7 @@ impl Free {
             height: Height { value: 0 },
         };
         let count = list.count;
-        let mut items = [s; 26];
+        let mut items = [s; Free::PLACES];
         let mut j: usize = 0;
         while j < count {
             let piece = list.items[j];

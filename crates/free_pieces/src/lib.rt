@@ -1,6 +1,7 @@
 // The free pieces of a layout as a value: one more, one taken, one split, the two to merge, the pieces of a new file.
 //
 // A list is the first `count` items of an array, so each value stands for one list of the definitions.
+use piece_lists::Pieces;
 use section::Section;
 
 mod allocating;
@@ -15,7 +16,12 @@ pub use taking::take_piece;
 // The free pieces by rising first block. Between a release and its merges there are more than a sound layout has.
 pub struct Free {
     pub count: usize,
-    pub items: [Section; 26],
+    pub items: [Section; Free::PLACES],
+}
+
+impl Free {
+    // Places for the pieces of a released file beside the others.
+    pub const PLACES: usize = 2 * Pieces::PLACES;
 }
 
 // A piece that was taken and the pieces that are left, if one was found.
@@ -37,6 +43,6 @@ pub struct Pair {
 pub struct Laid {
     pub ok: bool,
     pub count: usize,
-    pub items: [Section; 13],
+    pub items: [Section; Pieces::PLACES],
     pub free: Free,
 }

@@ -1,6 +1,6 @@
 // The two free pieces to merge: the lowest two of the lowest height that has two.
-ghost use Prim.Native.Nat.{suc, _≤_};
-ghost use Rattle.section.specs.Limits.{greatestHeight};
+ghost use Prim.Native.Nat.{_≤_};
+ghost use Rattle.section.specs.Limits.{heightCount};
 ghost use Rattle.layout.specs.Removing.{mergePair};
 ghost use Rattle.free_pieces.specs.Free.{freePlaces, freeOf, Pairs, lowestPair};
 use crate::Free;
@@ -40,7 +40,7 @@ impl Free {
     // here, since a list that is passed on is copied.
     pub fn lowest_pair(self) -> Pair
         requires { ⌜ self .count ≤ freePlaces ⌝ }
-        ensures { λ r. ⌜ Pairs (self .count) (lowestPair (suc greatestHeight) 0 (freeOf self)) r ⌝ }
+        ensures { λ r. ⌜ Pairs (self .count) (lowestPair heightCount 0 (freeOf self)) r ⌝ }
     {
         let s = Section {
             first: 0,

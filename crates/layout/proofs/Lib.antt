@@ -27,6 +27,7 @@ pub mod Added
 pub mod Fresh
 pub mod Ones
 pub mod Soundness
+pub mod SoundHeights
 pub mod Occurs
 pub mod CopiesRise
 pub mod MergeOrder

@@ -7,7 +7,7 @@ use Rattle.looking.specs.Opened.{Opened}
 use Rattle.layout.proofs.SoundSums.{SoundSums}
 use Rattle.layout.proofs.Soundness.{sound-sums}
 use Rattle.layout.specs.Layout.{blockCount, freeBlocks}
-use Rattle.section.specs.Limits.{greatestDisk}
+use Rattle.section.specs.Limits.{greatestDisk, heightCount}
 use Rattle.table.proofs.SoundStock.{sound-stocked}
 use Rattle.free_pieces.specs.Free.{freeOf}
 use Rattle.table.specs.Tables.{layoutOf}
@@ -15,8 +15,8 @@ use Rattle.free_pieces.specs.Taking.{Stocked}
 use Rattle.table.specs.declared.Table.{Table}
 
 module _ (t : Table) (o : Opened t) where
-  pub opened-sums : SoundSums 13 (layoutOf t)
-  opened-sums = sound-sums 13 (layoutOf t) (omega arith) (o .rules)
+  pub opened-sums : SoundSums heightCount (layoutOf t)
+  opened-sums = sound-sums heightCount (layoutOf t) (omega arith) (o .rules)
 
   pub opened-stocked : Stocked (t .free)
   opened-stocked = sound-stocked t (o .rules) (o .sized .free) (o .free)

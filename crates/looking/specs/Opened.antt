@@ -1,9 +1,9 @@
 -- What is known of a table once its catalogue was loaded, and what the calls that only look promise. Definitions only.
 use mathlib.Core.List.{List, _∷_}
 use mathlib.Core.Path.{_≡_}
-use Prim.Native.Nat.{ℕ, suc, _≤_}
+use Prim.Native.Nat.{ℕ, _≤_}
 use lib.ListN.{length}
-use Rattle.section.specs.Limits.{greatestDisk, greatestHeight, mostFiles}
+use Rattle.section.specs.Limits.{greatestDisk, mostFiles, heightCount}
 use Rattle.layout.specs.Layout.{Layout, findFile, freeBlocks}
 use Rattle.layout.specs.Sound.{Sound}
 use Rattle.manager.specs.Conditions.{Outcome, condition, firstRefusal, readChecks, unlessRefused, wrongDisk}
@@ -14,7 +14,7 @@ use Rattle.table.specs.Tables.{Sized, filesOf, layoutOf}
 
 -- a sound table: the lists are as long as their counts say
 pub record Opened (t : Table) : Type 0 where
-  pub rules : Sound (suc greatestHeight) (layoutOf t)
+  pub rules : Sound heightCount (layoutOf t)
   pub sized : Sized t
   pub array : length (t .files) ≡ mostFiles
   pub files : length (filesOf t) ≡ t .count

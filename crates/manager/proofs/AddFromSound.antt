@@ -10,13 +10,12 @@ use lib.ListN.{length}
 use borrow.Author.Tests.{le-ltb, lt-leb, ltb-false, ne-eqb}
 use Rattle.catalogue.proofs.Roomy.{Roomy}
 use Rattle.catalogue.specs.Encoding.{encode}
-use Rattle.catalogue.specs.Version.{Version}
+use Rattle.catalogue.specs.declared.Version.{Version}
 use Rattle.layout.proofs.Added.{added-once, added-size, added-sound, allocate-fits}
 use Rattle.layout.proofs.Allocating.{Allocates}
 use Rattle.layout.proofs.Lists.{each-head, each-tail}
 use Rattle.layout.proofs.Occurs.{blocks-within, length-blocks, occurs-blocks}
 use Rattle.layout.proofs.SoundSums.{SoundSums}
-use Rattle.layout.proofs.Soundness.{sound-sums, sums-sound}
 use Rattle.layout.specs.Adding.{allocate, allocated, withFile}
 use Rattle.layout.specs.Layout.{Layout, blocksOf, filePieces, freeBlocks, hasFile, holdsBlock}
 use Rattle.layout.specs.Lists.{Each, done, more, sumOf}
@@ -32,16 +31,17 @@ use Rattle.manager.specs.Conditions.{unlessRefused, unpaged}
 use Rattle.manager.specs.Disk.{block, cutPages, pageCount, pagesOn, writePages}
 use Rattle.manager.specs.Outcomes.{addOutcome, addPieces}
 use Rattle.manager.specs.WholeList.{lineOn}
-use Rattle.section.specs.Limits.{blockSize, mostFiles}
+use Rattle.section.specs.Limits.{blockSize, mostFiles, heightCount}
 use Rattle.section.specs.Sections.{lengthOf}
 use Rattle.section.specs.declared.Section.{Section}
+use Rattle.manager.proofs.AllHeights.{all-heights, own-heights}
 
 -- all that an answered add of the content bs as id i does to the layout l and the disk d
 pub record Adds (v : Version) (l : Layout) (d : List ℕ) (i : ℕ) (bs : List ℕ) (o : Outcome) : Type 0 where
   pub pieces : List Section
   pub rest : List Section
   -- one piece for each 1 of n, from the highest down
-  pub allocation : allocate 0 (v .heights) (pageCount bs) (l .free) ≡ allocated pieces rest
+  pub allocation : allocate 0 heightCount (pageCount bs) (l .free) ≡ allocated pieces rest
   pub reply : o .reply ≡ answered (pageCount bs)
   pub catalogue : o .catalogue ≡ encode v (withFile i pieces rest l)
   pub sound-after : Sound (v .heights) (withFile i pieces rest l)
@@ -62,8 +62,8 @@ module _ (v : Version) (room : Roomy v) (l : Layout) (s : Sound (v .heights) l) 
     (i : ℕ) (bs : List ℕ) (least : 1 ≤ i) (most : i ≤ greatestId) (fresh : hasFile i (l .files) ≡ false)
     (paged : unpaged bs ≡ false)
     (few : length (l .files) < mostFiles) (fits : pageCount bs ≤ freeBlocks l) where
-  sums : SoundSums (v .heights) l
-  sums = sound-sums (v .heights) l (omega (arith, room .some-heights)) s
+  sums : SoundSums heightCount l
+  sums = all-heights v room l s
 
   size : (1 ≤ pageCount bs) × (blockSize * pageCount bs ≡ length bs)
   size = paged-length bs paged
@@ -71,8 +71,8 @@ module _ (v : Version) (room : Roomy v) (l : Layout) (s : Sound (v .heights) l) 
   cut : Paged (cutPages (pageCount bs) bs) × (length (cutPages (pageCount bs) bs) ≡ pageCount bs)
   cut = cut-paged (pageCount bs) bs (omega (arith, size .1))
 
-  adds-pieces : (q r : List Section) → allocate 0 (v .heights) (pageCount bs) (l .free) ≡ allocated q r
-      → Allocates (l .blocks) (v .heights) (pageCount bs) (l .free) q r
+  adds-pieces : (q r : List Section) → allocate 0 heightCount (pageCount bs) (l .free) ≡ allocated q r
+      → Allocates (l .blocks) heightCount (pageCount bs) (l .free) q r
       → Adds v l d i bs (addPieces v i bs (encode v l) d l (allocated q r))
   unfolding pagesOn
   adds-pieces q r e p = record {
@@ -83,8 +83,8 @@ module _ (v : Version) (room : Roomy v) (l : Layout) (s : Sound (v .heights) l) 
     catalogue = refl;
     output = refl;
     sound-after =
-        sums-sound (v .heights) (withFile i q r l)
-        (added-sound (v .heights) i (pageCount bs) l sums q r p fresh least most (size .0) fits few);
+        own-heights v room (withFile i q r l) (s .most-blocks)
+        (added-sound heightCount i (pageCount bs) l sums q r p fresh least most (size .0) fits few);
     disk-length = write-length (l .blocks) d ld on-disk (cut .0);
     pages = back;
     others = λ x z. write-other (l .blocks) d ld on-disk (cut .0) x (occurs-blocks x q ∙ z);
@@ -101,10 +101,10 @@ module _ (v : Version) (room : Roomy v) (l : Layout) (s : Sound (v .heights) l) 
       on-disk = blocks-within (l .blocks) (p .on)
 
       once : (x : ℕ) → sumOf (holdsBlock x) q + sumOf (holdsBlock x) (filePieces (l .files)) ≤ 1
-      once = added-once (v .heights) i (pageCount bs) l sums q r p fresh least most (size .0) fits few
+      once = added-once heightCount i (pageCount bs) l sums q r p fresh least most (size .0) fits few
 
       sized : sumOf lengthOf q ≡ pageCount bs
-      sized = added-size (v .heights) i (pageCount bs) l sums q r p fresh least most (size .0) fits few
+      sized = added-size heightCount i (pageCount bs) l sums q r p fresh least most (size .0) fits few
 
       back : map (block d′) (blocksOf q) ≡ cutPages (pageCount bs) bs
       back =
@@ -116,9 +116,9 @@ module _ (v : Version) (room : Roomy v) (l : Layout) (s : Sound (v .heights) l) 
           lines-same d d′ (l .files)
           (λ x z. write-other (l .blocks) d ld on-disk (cut .0) x (omega (arith, occurs-blocks x q, once x)))
 
-  pub adds : Adds v l d i bs (addPieces v i bs (encode v l) d l (allocate 0 (v .heights) (pageCount bs) (l .free)))
+  pub adds : Adds v l d i bs (addPieces v i bs (encode v l) d l (allocate 0 heightCount (pageCount bs) (l .free)))
   adds =
-      let x = allocate-fits (v .heights) i (pageCount bs) l sums fits in
+      let x = allocate-fits heightCount i (pageCount bs) l sums fits in
       subst (λ t. Adds v l d i bs (addPieces v i bs (encode v l) d l t)) (sym (x .2))
       (adds-pieces (x .0) (x .1) (x .2) (x .3))
 
@@ -133,12 +133,12 @@ module _ (v : Version) (room : Roomy v) (l : Layout) (s : Sound (v .heights) l) 
       (le-ltb (freeBlocks l) (pageCount bs) fits) done)))))
 
   -- from any sound catalogue
-  pub add-from-sound : Adds v l d i bs (addOutcome v i bs (encode v l) d)
+  pub add-from-sound : Adds v l d i bs (addOutcome i bs (encode v l) d)
   add-from-sound =
       subst (Adds v l d i bs) (sym (add-on-sound v room l s d ld i bs))
       (subst (λ j. Adds v l d i bs
       (unlessRefused j (encode v l) d []
-      (addPieces v i bs (encode v l) d l (allocate 0 (v .heights) (pageCount bs) (l .free)))))
+      (addPieces v i bs (encode v l) d l (allocate 0 heightCount (pageCount bs) (l .free)))))
       (sym no-condition) adds)
 
 -- adding succeeds exactly if n is at most f
@@ -146,12 +146,12 @@ pub add-answered-iff : (v : Version) → Roomy v → (l : Layout) → Sound (v .
     → length d ≡ blockSize * l .blocks
     → (i : ℕ) (bs : List ℕ) → 1 ≤ i → i ≤ greatestId → hasFile i (l .files) ≡ false → unpaged bs ≡ false
     → length (l .files) < mostFiles
-    → (addOutcome v i bs (encode v l) d .reply ≡ answered (pageCount bs)) ↔ (pageCount bs ≤ freeBlocks l)
+    → (addOutcome i bs (encode v l) d .reply ≡ answered (pageCount bs)) ↔ (pageCount bs ≤ freeBlocks l)
 add-answered-iff v room l s d ld i bs least most fresh paged few = (
   λ e. (let q = subst (λ (o : Outcome). o .reply ≡ answered (pageCount bs)) (add-on-sound v room l s d ld i bs) e in
       let passed = allowed-none (addChecks i bs l)
       (answered-allowed (firstRefusal (addChecks i bs l)) (encode v l) d []
-      (addPieces v i bs (encode v l) d l (allocate 0 (v .heights) (pageCount bs) (l .free))) (pageCount bs) q) in
+      (addPieces v i bs (encode v l) d l (allocate 0 heightCount (pageCount bs) (l .free))) (pageCount bs) q) in
       ltb-false (freeBlocks l) (pageCount bs) (each-head (each-tail (each-tail (each-tail (each-tail passed)))))),
   λ fits. add-from-sound v room l s d ld i bs least most fresh paged few fits .reply,
 )

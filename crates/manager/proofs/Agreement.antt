@@ -9,7 +9,7 @@ use lib.ListN.{drop, length, length-map, take}
 use borrow.Author.Tests.{eqb-false, leb-false, ltb-false}
 use Rattle.catalogue.proofs.Roomy.{Roomy}
 use Rattle.catalogue.specs.Encoding.{encode}
-use Rattle.catalogue.specs.Version.{Version}
+use Rattle.catalogue.specs.declared.Version.{Version}
 use Rattle.layout.proofs.Swaps.{same}
 use Rattle.layout.specs.Adding.{allocate}
 use Rattle.layout.specs.Layout.{File, Found, Layout, breaksOf, fileBlocks, findFile, found, freeBlocks, hasFile}
@@ -35,7 +35,7 @@ use Rattle.manager.specs.Disk.{joinPages, pageCount, pagesOn}
 use Rattle.manager.specs.Outcomes.{addOutcome, addPieces, afterMerges, breaksFound, breaksReply, checkReply}
 use Rattle.manager.specs.Outcomes.{freeReply, perform, readFound, readOutcome, removeFound, removeOutcome}
 use Rattle.manager.specs.WholeList.{lineOn}
-use Rattle.section.specs.Limits.{blockSize, mostFiles}
+use Rattle.section.specs.Limits.{blockSize, mostFiles, heightCount}
 
 module _ (v : Version) (room : Roomy v) (l : Layout) (s : Sound (v .heights) l) (d : List ℕ)
     (ld : length d ≡ blockSize * l .blocks) where
@@ -48,7 +48,7 @@ module _ (v : Version) (room : Roomy v) (l : Layout) (s : Sound (v .heights) l) 
   abbrev Claim : Call → Outcome → BookStep → Type 0
   Claim c o t = StepClaim v c cat d b o t
 
-  add-agrees : (i : ℕ) (bs : List ℕ) → i ≤ greatestId → Claim (add i bs) (addOutcome v i bs cat d) (bookAdd i bs b)
+  add-agrees : (i : ℕ) (bs : List ℕ) → i ≤ greatestId → Claim (add i bs) (addOutcome i bs cat d) (bookAdd i bs b)
   unfolding firstRefusal
   add-agrees i bs most =
       subst (λ o. Claim (add i bs) o (bookAdd i bs b)) (sym (add-on-sound v room l s d ld i bs))
@@ -63,7 +63,7 @@ module _ (v : Version) (room : Roomy v) (l : Layout) (s : Sound (v .heights) l) 
           (unlessRefused
           (firstRefusal
           (condition 5 t5 ∷ condition 7 t7 ∷ condition 8 t8 ∷ condition 10 t10 ∷ condition 11 t11 ∷ []))
-          cat d [] (addPieces v i bs cat d l (allocate 0 (v .heights) (pageCount bs) (l .free))))
+          cat d [] (addPieces v i bs cat d l (allocate 0 heightCount (pageCount bs) (l .free))))
           (cond t5 (bookRefuses 5 b [])
           (cond t7 (bookRefuses 7 b [])
           (cond t8 (bookRefuses 8 b [])
@@ -82,11 +82,11 @@ module _ (v : Version) (room : Roomy v) (l : Layout) (s : Sound (v .heights) l) 
           let nonzero = eqb-false i 0 e in
           let least : 1 ≤ i = omega (arith, nonzero) in
           add-claim v room l s d ld i bs
-          (addPieces v i bs cat d l (allocate 0 (v .heights) (pageCount bs) (l .free)))
+          (addPieces v i bs cat d l (allocate 0 heightCount (pageCount bs) (l .free)))
           (adds v room l s d ld i bs least most e7 e8 (leb-false mostFiles (length (l .files)) e10)
           (ltb-false (freeBlocks l) (pageCount bs) e11))
 
-  remove-agrees : (i : ℕ) → Claim (remove i) (removeOutcome v i cat d) (bookRemove i b)
+  remove-agrees : (i : ℕ) → Claim (remove i) (removeOutcome i cat d) (bookRemove i b)
   unfolding firstRefusal
   remove-agrees i =
       subst (λ o. Claim (remove i) o (bookRemove i b)) (sym (remove-on-sound v room l s d ld i))
@@ -104,10 +104,10 @@ module _ (v : Version) (room : Roomy v) (l : Layout) (s : Sound (v .heights) l) 
       go true e x e6 = refused-claim v room l s d ld (remove i) 5
       go false e missing e6 = refused-claim v room l s d ld (remove i) 6
       go false e (found f) e6 =
-          remove-claim v room l s d ld i f (afterMerges v (release f l) d (removal (v .heights) f l)) e6
+          remove-claim v room l s d ld i f (afterMerges v (release f l) d (removal heightCount f l)) e6
           (removes v room l s d ld i f e6)
 
-  read-agrees : (i p : ℕ) (o : List ℕ) → Claim (read i p o) (readOutcome v i p o cat d) (bookRead i p o b)
+  read-agrees : (i p : ℕ) (o : List ℕ) → Claim (read i p o) (readOutcome i p o cat d) (bookRead i p o b)
   unfolding firstRefusal
   read-agrees i p o =
       subst (λ x. Claim (read i p o) x (bookRead i p o b)) (sym (read-on-sound v room l s d ld i p o))
@@ -142,7 +142,7 @@ module _ (v : Version) (room : Roomy v) (l : Layout) (s : Sound (v .heights) l) 
           rw (whole-unpaged o, pages-length d (f .pieces))
           (inner f e6 (unpaged o) (ltb (fileBlocks f) (p + pageCount o)))
 
-  breaks-agrees : (i : ℕ) → Claim (breaks i) (outcome (breaksReply v i cat) cat d []) (bookBreaks i b)
+  breaks-agrees : (i : ℕ) → Claim (breaks i) (outcome (breaksReply i cat) cat d []) (bookBreaks i b)
   unfolding firstRefusal
   breaks-agrees i =
       subst (λ r. Claim (breaks i) (outcome r cat d []) (bookBreaks i b)) (sym (breaks-on-sound v room l s i))
@@ -165,14 +165,14 @@ module _ (v : Version) (room : Roomy v) (l : Layout) (s : Sound (v .heights) l) 
           let same = same-file v room l s d ld i m g f w (ap (λ t. findFile t (m .files)) same-id ∙ q) e6 in
           sym (answered-same (breaksOf (f .pieces)) k r) ∙ ap (λ (x : File). breaksOf (x .pieces)) (sym same)))
 
-  free-agrees : Claim free (outcome (freeReply v cat) cat d []) (bookAnswers (bookFree b) b [])
+  free-agrees : Claim free (outcome (freeReply cat) cat d []) (bookAnswers (bookFree b) b [])
   free-agrees =
       subst (λ r. Claim free (outcome r cat d []) (bookAnswers (bookFree b) b [])) (sym (free-on-sound v room l s))
       (answered-claim v room l s d ld free (freeBlocks l) (answers (bookFree b)) [] (sym (book-free d l))
       (λ j k z. let q : _≡_ {A = ℕ} 0 1 = cc in omega arith)
       (λ j k m g z. absurd (let q : _≡_ {A = ℕ} 0 1 = cc in omega arith)))
 
-  check-agrees : Claim check (outcome (checkReply v cat d) cat d []) (bookAnswers (l .blocks) b [])
+  check-agrees : Claim check (outcome (checkReply cat d) cat d []) (bookAnswers (l .blocks) b [])
   check-agrees =
       subst (λ r. Claim check (outcome r cat d []) (bookAnswers (l .blocks) b []))
       (sym (check-on-sound v room l s d ld))
@@ -181,7 +181,7 @@ module _ (v : Version) (room : Roomy v) (l : Layout) (s : Sound (v .heights) l) 
       (λ j k m g z. absurd (let q : _≡_ {A = ℕ} 0 1 = cc in omega arith)))
 
   -- every call
-  pub call-agrees : (c : Call) → TwoByteId c → Claim c (perform v c cat d) (inBook c b)
+  pub call-agrees : (c : Call) → TwoByteId c → Claim c (perform c cat d) (inBook c b)
   call-agrees (add i bs) most = add-agrees i bs most
   call-agrees (remove i) _ = remove-agrees i
   call-agrees (read i p o) _ = read-agrees i p o

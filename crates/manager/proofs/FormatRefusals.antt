@@ -1,26 +1,28 @@
--- When a format is refused: with 1 exactly if the catalogue has another length than the version's, with 2 exactly
--- if it has that length and the disk is not the bytes of C blocks for a C of the version, and with no other number.
--- Assumes nothing.
-use mathlib.Core.Bool.{Bool, false, not, true}
+-- When a format is refused: with 1 exactly if the catalogue has the length of no version, with 2 exactly if it has that
+-- of a version and the disk is not the bytes of C blocks for a C of that version, and with no other number. Assumes
+-- nothing.
+use mathlib.Core.Bool.{Bool, false, true}
 use mathlib.Core.List.{List, [], _∷_}
 use mathlib.Core.Logic.{_↔_, _⊎_, inl, inr}
-use mathlib.Core.Path.{_≡_, refl}
+use mathlib.Core.Path.{_∙_, _≡_, ap, refl, subst, sym}
 use Prim.Native.Nat.{_%_, _*_, _<_, _≤_, ℕ}
 use native.Mathlib.Omega.{arith}
-use lib.Dec.{eqb}
 use lib.ListN.{length}
+use Rattle.catalogue.proofs.Roomy.{roomy, version-of-one}
 use Rattle.catalogue.specs.Encoding.{encode}
-use Rattle.catalogue.specs.Version.{Version, greatestBlocks}
+use Rattle.catalogue.specs.Version.{OneOf, greatestBlocks, versionFor, versions}
+use Rattle.catalogue.specs.declared.Version.{Version}
 use Rattle.layout.specs.Layout.{freshLayout}
-use Rattle.manager.proofs.Deciding.{Decides, decides-below, decides-equal, decides-or}
+use Rattle.manager.proofs.Catalogues.{NoVersion, decides-length}
+use Rattle.manager.proofs.Deciding.{Decides, decides-below, decides-or}
 use Rattle.manager.proofs.Deciding.{equal-if-never-unequal}
 use Rattle.manager.proofs.Refusals.{answered-not-refused}
 use Rattle.manager.proofs.TableRows.{decides-unpaged}
 use Rattle.manager.specs.Conditions.{Reply, answered, condition, firstRefusal, noDisk, outcome, refused}
-use Rattle.manager.specs.Conditions.{unlessRefused}
+use Rattle.manager.specs.Conditions.{unlessRefused, wrongCatalogue}
 use Rattle.manager.specs.Disk.{pageCount}
-use Rattle.manager.specs.Outcomes.{formatOutcome}
-use Rattle.section.specs.Limits.{blockSize}
+use Rattle.manager.specs.Outcomes.{formatIn, formatOutcome}
+use Rattle.section.specs.Limits.{blockSize, heightCount}
 
 -- d has the length of C blocks, for a C from 1 to the version's greatest
 abbrev pub SomeDisk : Version → List ℕ → Type 0
@@ -31,9 +33,10 @@ abbrev WrongLength : Version → List ℕ → Type 0
 WrongLength v d = ((length d ≡ 0) ⊎ (length d % blockSize ≡ 0 → ⊥)) ⊎ (greatestBlocks v < pageCount d)
 
 -- when a format gives each of its numbers
-pub record FormatRefused (v : Version) (cat d : List ℕ) (r : Reply) : Type 0 where
-  pub catalogue-length : (r ≡ refused 1) ↔ (length cat ≡ v .bytes → ⊥)
-  pub disk-length : (r ≡ refused 2) ↔ ((length cat ≡ v .bytes) × (SomeDisk v d → ⊥))
+pub record FormatRefused (cat d : List ℕ) (r : Reply) : Type 0 where
+  pub catalogue-length : (r ≡ refused 1) ↔ NoVersion cat
+  pub disk-length : (r ≡ refused 2)
+      ↔ ((v : Version) × OneOf v versions × (length cat ≡ v .bytes) × (SomeDisk v d → ⊥))
   pub no-other : (n : ℕ) → r ≡ refused n → (n ≡ 1) ⊎ (n ≡ 2)
 
 -- the condition on the disk tells that there is no such C
@@ -56,28 +59,44 @@ decides-no-disk v d = record { holds = λ e. wrong (test .holds e); fails = λ e
         (pageCount d, omega (arith, some), omega (arith, most), omega arith)
 
 -- when a format is refused, and with which number
-pub format-lowest-refusal : (v : Version) (cat d : List ℕ) → FormatRefused v cat d (formatOutcome v cat d .reply)
-unfolding formatOutcome firstRefusal
-format-lowest-refusal v cat d =
-    go (eqb (length cat) (v .bytes)) (noDisk v d) (decides-equal (length cat) (v .bytes)) (decides-no-disk v d)
+pub format-lowest-refusal : (cat d : List ℕ) → FormatRefused cat d (formatOutcome cat d .reply)
+unfolding formatIn firstRefusal
+format-lowest-refusal cat d = go (wrongCatalogue v cat) (noDisk v d) (decides-length cat) (decides-no-disk v d)
   where
-    go : (a b : Bool) → Decides (length cat ≡ v .bytes) a → Decides (SomeDisk v d → ⊥) b
-        → FormatRefused v cat d
-        (unlessRefused (firstRefusal (condition 1 (not a) ∷ condition 2 b ∷ [])) cat d []
-        (outcome (answered (pageCount d)) (encode v (freshLayout (v .heights) (pageCount d))) d []) .reply)
-    go false b s t = record {
-      catalogue-length = (λ e. s .fails refl, λ h. refl);
-      disk-length = (λ e. absurd (let z : _≡_ {A = ℕ} 1 2 = cc in omega arith), λ w. absurd (s .fails refl (w .0)));
+    v : Version
+    v = versionFor (length cat)
+
+    -- no other version has the length
+    own : (u : Version) → OneOf u versions → length cat ≡ u .bytes → v ≡ u
+    own u known e = ap versionFor e ∙ roomy known .picked
+
+    right : (NoVersion cat → ⊥) → length cat ≡ v .bytes
+    right h =
+        equal-if-never-unequal (length cat) (v .bytes)
+        (λ no. h λ u known e. no (e ∙ ap (λ (w : Version). w .bytes) (sym (own u known e))))
+
+    go : (a b : Bool) → Decides (NoVersion cat) a → Decides (SomeDisk v d → ⊥) b
+        → FormatRefused cat d
+        (unlessRefused (firstRefusal (condition 1 a ∷ condition 2 b ∷ [])) cat d []
+        (outcome (answered (pageCount d)) (encode v (freshLayout heightCount (pageCount d))) d []) .reply)
+    go true b s t = record {
+      catalogue-length = (λ e. s .holds refl, λ h. refl);
+      disk-length = (
+        λ e. absurd (let z : _≡_ {A = ℕ} 1 2 = cc in omega arith),
+        λ w. absurd (s .holds refl (w .0) (w .1) (w .2)),
+      );
       no-other = λ n e. inl (cc);
     }
-    go true true s t = record {
-      catalogue-length =
-          (λ e. absurd (let z : _≡_ {A = ℕ} 1 2 = cc in omega arith), λ h. absurd (h (s .holds refl)));
-      disk-length = (λ e. (s .holds refl, t .holds refl), λ w. refl);
+    go false true s t = record {
+      catalogue-length = (λ e. absurd (let z : _≡_ {A = ℕ} 1 2 = cc in omega arith), λ h. absurd (s .fails refl h));
+      disk-length = (λ e. (v, version-of-one (length cat), right (s .fails refl), t .holds refl), λ w. refl);
       no-other = λ n e. inr (cc);
     }
-    go true false s t = record {
-      catalogue-length = (λ e. absurd (answered-not-refused (pageCount d) 1 e), λ h. absurd (h (s .holds refl)));
-      disk-length = (λ e. absurd (answered-not-refused (pageCount d) 2 e), λ w. absurd (t .fails refl (w .1)));
+    go false false s t = record {
+      catalogue-length = (λ e. absurd (answered-not-refused (pageCount d) 1 e), λ h. absurd (s .fails refl h));
+      disk-length = (
+        λ e. absurd (answered-not-refused (pageCount d) 2 e),
+        λ w. absurd (t .fails refl λ some. w .3 (subst (λ u. SomeDisk u d) (own (w .0) (w .1) (w .2)) some)),
+      );
       no-other = λ n e. absurd (answered-not-refused (pageCount d) n e);
     }

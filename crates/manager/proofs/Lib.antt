@@ -7,6 +7,7 @@ pub mod Contents
 pub mod Judging
 pub mod OnRead
 pub mod OnSound
+pub mod AllHeights
 pub mod AddFromSound
 pub mod RemoveFromSound
 pub mod AddAfterRemoval
@@ -17,7 +18,10 @@ pub mod ReadBack
 pub mod Refusals
 pub mod Deciding
 pub mod ConditionLists
+pub mod Catalogues
 pub mod TableRows
 pub mod LowestRefusal
 pub mod FormatRefusals
 pub mod WholeList
+pub mod FormatLimits
+pub mod Printed

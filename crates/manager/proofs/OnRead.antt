@@ -6,7 +6,7 @@ use Prim.Native.Nat.{ℕ}
 use lib.ListN.{length}
 use borrow.Author.Tests.{eq-eqb, ne-eqb}
 use Rattle.catalogue.specs.Reading.{readCatalogue, sound, unsound}
-use Rattle.catalogue.specs.Version.{Version}
+use Rattle.catalogue.specs.declared.Version.{Version}
 use Rattle.layout.proofs.Swaps.{right}
 use Rattle.layout.specs.Adding.{allocate}
 use Rattle.layout.specs.Layout.{Layout, findFile, freeBlocks}
@@ -14,9 +14,10 @@ use Rattle.manager.specs.Conditions.{Condition, addChecks, answered, con
 use Rattle.manager.specs.Conditions.{onLayout, outcome, readChecks, refusal, refused, replyUnless}
 use Rattle.manager.specs.Conditions.{unlessRefused, wrongCatalogue, wrongDisk}
 use Rattle.manager.specs.Disk.{pageCount}
-use Rattle.manager.specs.Outcomes.{addOutcome, addPieces, breaksFound, breaksReply, checkReply, doAdd}
-use Rattle.manager.specs.Outcomes.{doBreaks, doCheck, doFree, doRead, doRemove, freeReply, readFound}
-use Rattle.manager.specs.Outcomes.{readOutcome, removeFound, removeOutcome}
+use Rattle.manager.specs.Outcomes.{addIn, addPieces, breaksFound, breaksIn, checkIn, doAdd}
+use Rattle.manager.specs.Outcomes.{doBreaks, doCheck, doFree, doRead, doRemove, freeIn, readFound}
+use Rattle.manager.specs.Outcomes.{readIn, removeFound, removeIn}
+use Rattle.section.specs.Limits.{heightCount}
 
 -- ---- a catalogue from which the layout l is read
 
@@ -32,45 +33,45 @@ module _ (v : Version) (cat : List ℕ) (l : Layout) (lc : length cat ≡ v .byt
   past-catalogue k = rw (right-length, rd)
 
   pub breaks-on-read : (i : ℕ)
-      → breaksReply v i cat ≡ replyUnless (firstRefusal (fileChecks i l)) (breaksFound (findFile i (l .files)))
-  unfolding breaksReply
+      → breaksIn v i cat ≡ replyUnless (firstRefusal (fileChecks i l)) (breaksFound (findFile i (l .files)))
+  unfolding breaksIn
   breaks-on-read i = ap₂ (λ j x. replyUnless j (doBreaks i x)) (past-catalogue (fileChecks i)) rd
 
-  pub free-on-read : freeReply v cat ≡ answered (freeBlocks l)
-  unfolding freeReply firstRefusal
+  pub free-on-read : freeIn v cat ≡ answered (freeBlocks l)
+  unfolding freeIn firstRefusal
   free-on-read = ap₂ (λ j x. replyUnless j (doFree x)) (past-catalogue (λ l. [])) rd
 
   -- whatever the disk
   pub add-on-read : (i : ℕ) (bs d : List ℕ)
-      → addOutcome v i bs cat d
+      → addIn v i bs cat d
       ≡ unlessRefused (firstRefusal (condition 4 (wrongDisk l d) ∷ addChecks i bs l)) cat d []
-      (addPieces v i bs cat d l (allocate 0 (v .heights) (pageCount bs) (l .free)))
-  unfolding addOutcome
+      (addPieces v i bs cat d l (allocate 0 heightCount (pageCount bs) (l .free)))
+  unfolding addIn
   add-on-read i bs d =
       ap₂ (λ j x. unlessRefused j cat d [] (doAdd v i bs cat d x))
       (past-catalogue (λ m. condition 4 (wrongDisk m d) ∷ addChecks i bs m)) rd
 
   pub remove-on-read : (i : ℕ) (d : List ℕ)
-      → removeOutcome v i cat d
+      → removeIn v i cat d
       ≡ unlessRefused (firstRefusal (condition 4 (wrongDisk l d) ∷ fileChecks i l)) cat d []
       (removeFound v cat d l (findFile i (l .files)))
-  unfolding removeOutcome
+  unfolding removeIn
   remove-on-read i d =
       ap₂ (λ j x. unlessRefused j cat d [] (doRemove v i cat d x))
       (past-catalogue (λ m. condition 4 (wrongDisk m d) ∷ fileChecks i m)) rd
 
   pub read-on-read : (i p : ℕ) (o d : List ℕ)
-      → readOutcome v i p o cat d
+      → readIn v i p o cat d
       ≡ unlessRefused (firstRefusal (condition 4 (wrongDisk l d) ∷ readChecks i p o l)) cat d o
       (readFound p o cat d (findFile i (l .files)))
-  unfolding readOutcome
+  unfolding readIn
   read-on-read i p o d =
       ap₂ (λ j x. unlessRefused j cat d o (doRead i p o cat d x))
       (past-catalogue (λ m. condition 4 (wrongDisk m d) ∷ readChecks i p o m)) rd
 
   pub check-on-read : (d : List ℕ)
-      → checkReply v cat d ≡ replyUnless (firstRefusal (condition 4 (wrongDisk l d) ∷ [])) (answered (l .blocks))
-  unfolding checkReply
+      → checkIn v cat d ≡ replyUnless (firstRefusal (condition 4 (wrongDisk l d) ∷ [])) (answered (l .blocks))
+  unfolding checkIn
   check-on-read d =
       ap₂ (λ j x. replyUnless j (doCheck x)) (past-catalogue (λ m. condition 4 (wrongDisk m d) ∷ [])) rd
 
@@ -96,33 +97,33 @@ wrong-length v cat lc k =
 module _ (v : Version) (cat : List ℕ) (n : ℕ)
     (shut : (k : Layout → List Condition)
     → firstRefusal (condition 1 (wrongCatalogue v cat) ∷ onLayout (readCatalogue v cat) k) ≡ refusal n) where
-  pub add-refused : (i : ℕ) (bs d : List ℕ) → addOutcome v i bs cat d ≡ outcome (refused n) cat d []
-  unfolding addOutcome
+  pub add-refused : (i : ℕ) (bs d : List ℕ) → addIn v i bs cat d ≡ outcome (refused n) cat d []
+  unfolding addIn
   add-refused i bs d =
       ap (λ j. unlessRefused j cat d [] (doAdd v i bs cat d (readCatalogue v cat)))
       (shut (λ m. condition 4 (wrongDisk m d) ∷ addChecks i bs m))
 
-  pub remove-refused : (i : ℕ) (d : List ℕ) → removeOutcome v i cat d ≡ outcome (refused n) cat d []
-  unfolding removeOutcome
+  pub remove-refused : (i : ℕ) (d : List ℕ) → removeIn v i cat d ≡ outcome (refused n) cat d []
+  unfolding removeIn
   remove-refused i d =
       ap (λ j. unlessRefused j cat d [] (doRemove v i cat d (readCatalogue v cat)))
       (shut (λ m. condition 4 (wrongDisk m d) ∷ fileChecks i m))
 
-  pub read-refused : (i p : ℕ) (o d : List ℕ) → readOutcome v i p o cat d ≡ outcome (refused n) cat d o
-  unfolding readOutcome
+  pub read-refused : (i p : ℕ) (o d : List ℕ) → readIn v i p o cat d ≡ outcome (refused n) cat d o
+  unfolding readIn
   read-refused i p o d =
       ap (λ j. unlessRefused j cat d o (doRead i p o cat d (readCatalogue v cat)))
       (shut (λ m. condition 4 (wrongDisk m d) ∷ readChecks i p o m))
 
-  pub breaks-refused : (i : ℕ) → breaksReply v i cat ≡ refused n
-  unfolding breaksReply
+  pub breaks-refused : (i : ℕ) → breaksIn v i cat ≡ refused n
+  unfolding breaksIn
   breaks-refused i = ap (λ j. replyUnless j (doBreaks i (readCatalogue v cat))) (shut (fileChecks i))
 
-  pub free-refused : freeReply v cat ≡ refused n
-  unfolding freeReply
+  pub free-refused : freeIn v cat ≡ refused n
+  unfolding freeIn
   free-refused = ap (λ j. replyUnless j (doFree (readCatalogue v cat))) (shut (λ l. []))
 
-  pub check-refused : (d : List ℕ) → checkReply v cat d ≡ refused n
-  unfolding checkReply
+  pub check-refused : (d : List ℕ) → checkIn v cat d ≡ refused n
+  unfolding checkIn
   check-refused d =
       ap (λ j. replyUnless j (doCheck (readCatalogue v cat))) (shut (λ m. condition 4 (wrongDisk m d) ∷ []))

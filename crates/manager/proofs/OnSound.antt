@@ -10,7 +10,7 @@ use Rattle.catalogue.proofs.Roomy.{Roomy}
 use Rattle.catalogue.proofs.Size.{encode-length}
 use Rattle.catalogue.specs.Encoding.{encode}
 use Rattle.catalogue.specs.Reading.{readCatalogue, sound}
-use Rattle.catalogue.specs.Version.{Version}
+use Rattle.catalogue.specs.declared.Version.{Version}
 use Rattle.layout.specs.Adding.{allocate}
 use Rattle.layout.specs.Layout.{Layout, findFile, freeBlocks}
 use Rattle.layout.specs.Sound.{Sound}
@@ -22,29 +22,37 @@ use Rattle.manager.specs.Conditions.{readChecks, replyUnless, unlessRefu
 use Rattle.manager.specs.Disk.{pageCount}
 use Rattle.manager.specs.Outcomes.{addOutcome, addPieces, breaksFound, breaksReply, checkReply, freeReply}
 use Rattle.manager.specs.Outcomes.{readFound, readOutcome, removeFound, removeOutcome}
-use Rattle.section.specs.Limits.{blockSize}
+use Rattle.section.specs.Limits.{blockSize, heightCount}
+use Rattle.catalogue.proofs.Versions.{version-of-encoded}
+use Rattle.catalogue.specs.Version.{versionOf}
+use Rattle.manager.specs.Outcomes.{addIn, breaksIn, checkIn, freeIn, readIn, removeIn}
 
 module _ (v : Version) (room : Roomy v) (l : Layout) (s : Sound (v .heights) l) where
   lc : length (encode v l) ≡ v .bytes
   lc = encode-length v room l s
 
+  -- its version is v again
+  pick : versionOf (encode v l) ≡ v
+  pick = version-of-encoded v room l s
+
   rd : readCatalogue v (encode v l) ≡ sound l
   rd = catalogue-back v room l s
 
   pub breaks-on-sound : (i : ℕ)
-      → breaksReply v i (encode v l)
+      → breaksReply i (encode v l)
       ≡ replyUnless (firstRefusal (fileChecks i l)) (breaksFound (findFile i (l .files)))
-  breaks-on-sound = breaks-on-read v (encode v l) l lc rd
+  breaks-on-sound i = ap (λ u. breaksIn u i (encode v l)) pick ∙ breaks-on-read v (encode v l) l lc rd i
 
-  pub free-on-sound : freeReply v (encode v l) ≡ answered (freeBlocks l)
-  free-on-sound = free-on-read v (encode v l) l lc rd
+  pub free-on-sound : freeReply (encode v l) ≡ answered (freeBlocks l)
+  free-on-sound = ap (λ u. freeIn u (encode v l)) pick ∙ free-on-read v (encode v l) l lc rd
 
   -- a removal, whatever the disk
   pub remove-on-catalogue : (i : ℕ) (d : List ℕ)
-      → removeOutcome v i (encode v l) d
+      → removeOutcome i (encode v l) d
       ≡ unlessRefused (firstRefusal (condition 4 (wrongDisk l d) ∷ fileChecks i l)) (encode v l) d []
       (removeFound v (encode v l) d l (findFile i (l .files)))
-  remove-on-catalogue = remove-on-read v (encode v l) l lc rd
+  remove-on-catalogue i d =
+      ap (λ u. removeIn u i (encode v l) d) pick ∙ remove-on-read v (encode v l) l lc rd i d
 
   -- on a disk of the right length condition 4 does not apply
   module _ (d : List ℕ) (ld : length d ≡ blockSize * l .blocks) where
@@ -52,34 +60,37 @@ module _ (v : Version) (room : Roomy v) (l : Layout) (s : Sound (v .heights) l) 
     past-disk cs = passes (condition 4 (wrongDisk l d)) cs (ap not (eq-eqb (length d) (blockSize * l .blocks) ld))
 
     pub add-on-sound : (i : ℕ) (bs : List ℕ)
-        → addOutcome v i bs (encode v l) d
+        → addOutcome i bs (encode v l) d
         ≡ unlessRefused (firstRefusal (addChecks i bs l)) (encode v l) d []
-        (addPieces v i bs (encode v l) d l (allocate 0 (v .heights) (pageCount bs) (l .free)))
+        (addPieces v i bs (encode v l) d l (allocate 0 heightCount (pageCount bs) (l .free)))
     add-on-sound i bs =
-        add-on-read v (encode v l) l lc rd i bs d
+        ap (λ u. addIn u i bs (encode v l) d) pick
+        ∙ (add-on-read v (encode v l) l lc rd i bs d
         ∙ ap (λ j. unlessRefused j (encode v l) d []
-        (addPieces v i bs (encode v l) d l (allocate 0 (v .heights) (pageCount bs) (l .free))))
-        (past-disk (addChecks i bs l))
+        (addPieces v i bs (encode v l) d l (allocate 0 heightCount (pageCount bs) (l .free))))
+        (past-disk (addChecks i bs l)))
 
     pub remove-on-sound : (i : ℕ)
-        → removeOutcome v i (encode v l) d
+        → removeOutcome i (encode v l) d
         ≡ unlessRefused (firstRefusal (fileChecks i l)) (encode v l) d []
         (removeFound v (encode v l) d l (findFile i (l .files)))
     remove-on-sound i =
-        remove-on-read v (encode v l) l lc rd i d
+        remove-on-catalogue i d
         ∙ ap (λ j. unlessRefused j (encode v l) d [] (removeFound v (encode v l) d l (findFile i (l .files))))
         (past-disk (fileChecks i l))
 
     pub read-on-sound : (i p : ℕ) (o : List ℕ)
-        → readOutcome v i p o (encode v l) d
+        → readOutcome i p o (encode v l) d
         ≡ unlessRefused (firstRefusal (readChecks i p o l)) (encode v l) d o
         (readFound p o (encode v l) d (findFile i (l .files)))
     read-on-sound i p o =
-        read-on-read v (encode v l) l lc rd i p o d
+        ap (λ u. readIn u i p o (encode v l) d) pick
+        ∙ (read-on-read v (encode v l) l lc rd i p o d
         ∙ ap (λ j. unlessRefused j (encode v l) d o (readFound p o (encode v l) d (findFile i (l .files))))
-        (past-disk (readChecks i p o l))
+        (past-disk (readChecks i p o l)))
 
-    pub check-on-sound : checkReply v (encode v l) d ≡ answered (l .blocks)
+    pub check-on-sound : checkReply (encode v l) d ≡ answered (l .blocks)
     unfolding firstRefusal
     check-on-sound =
-        check-on-read v (encode v l) l lc rd d ∙ ap (λ j. replyUnless j (answered (l .blocks))) (past-disk [])
+        ap (λ u. checkIn u (encode v l) d) pick
+        ∙ (check-on-read v (encode v l) l lc rd d ∙ ap (λ j. replyUnless j (answered (l .blocks))) (past-disk []))

@@ -10,7 +10,7 @@ use lib.ListN.{drop, length, length-drop, length-take, take}
 use borrow.Author.Tests.{le-ltb, ne-eqb}
 use Rattle.catalogue.proofs.Roomy.{Roomy}
 use Rattle.catalogue.specs.Encoding.{encode}
-use Rattle.catalogue.specs.Version.{Version}
+use Rattle.catalogue.specs.declared.Version.{Version}
 use Rattle.layout.proofs.Finding.{find-each, found-find, found-inserted}
 use Rattle.layout.proofs.Lists.{each-left}
 use Rattle.layout.proofs.Occurs.{blocks-within}
@@ -67,7 +67,7 @@ module _ (v : Version) (room : Roomy v) (l : Layout) (s : Sound (v .heights) l) 
   -- an answered read, from any sound catalogue
   pub read-from-sound : (i p : ℕ) (o : List ℕ) (f : File) → 1 ≤ i → findFile i (l .files) ≡ found f
       → unpaged o ≡ false → p + pageCount o ≤ fileBlocks f
-      → readOutcome v i p o (encode v l) d
+      → readOutcome i p o (encode v l) d
       ≡ outcome (answered (pageCount o)) (encode v l) d
       (joinPages (take (pageCount o) (drop p (pagesOn d (f .pieces)))))
   read-from-sound i p o f least e paged fits =
@@ -85,7 +85,7 @@ module _ (v : Version) (room : Roomy v) (l : Layout) (s : Sound (v .heights) l) 
   -- the output keeps its length
   pub read-output-length : (i p : ℕ) (o : List ℕ) (f : File) → 1 ≤ i → findFile i (l .files) ≡ found f
       → unpaged o ≡ false → p + pageCount o ≤ fileBlocks f
-      → length (readOutcome v i p o (encode v l) d .output) ≡ length o
+      → length (readOutcome i p o (encode v l) d .output) ≡ length o
   read-output-length i p o f least e paged fits =
       let ps = pagesOn d (f .pieces) in
       let part = take (pageCount o) (drop p ps) in
@@ -102,8 +102,8 @@ module _ (v : Version) (room : Roomy v) (l : Layout) (s : Sound (v .heights) l) 
     (paged : unpaged bs ≡ false)
     (few : length (l .files) < mostFiles) (fits : pageCount bs ≤ freeBlocks l) where
   pub read-back : (o : List ℕ) → length o ≡ length bs
-      → readOutcome v i 0 o (addOutcome v i bs (encode v l) d .catalogue)
-      (addOutcome v i bs (encode v l) d .disk) .output
+      → readOutcome i 0 o (addOutcome i bs (encode v l) d .catalogue)
+      (addOutcome i bs (encode v l) d .disk) .output
       ≡ bs
   read-back o long =
       let a = add-from-sound v room l s d ld i bs least most fresh paged few fits in
@@ -113,11 +113,11 @@ module _ (v : Version) (room : Roomy v) (l : Layout) (s : Sound (v .heights) l) 
       let count : pageCount o ≡ pageCount bs = ap (λ n. n / blockSize) long in
       let whole : unpaged o ≡ false = ap (λ n. eqb n 0 || not (eqb (n % blockSize) 0)) long ∙ paged in
       let len : fileBlocks f ≡ pageCount bs =
-      sym (pages-length (addOutcome v i bs (encode v l) d .disk) (a .pieces))
+      sym (pages-length (addOutcome i bs (encode v l) d .disk) (a .pieces))
       ∙ (ap length (a .pages) ∙ cut-paged (pageCount bs) bs (omega (arith, paged-length bs paged .1)) .1) in
-      ap (λ z. readOutcome v i 0 o z (addOutcome v i bs (encode v l) d .disk) .output) (a .catalogue)
+      ap (λ z. readOutcome i 0 o z (addOutcome i bs (encode v l) d .disk) .output) (a .catalogue)
       ∙ (ap (λ (x : Outcome). x .output)
-      (read-from-sound v room m (a .sound-after) (addOutcome v i bs (encode v l) d .disk)
+      (read-from-sound v room m (a .sound-after) (addOutcome i bs (encode v l) d .disk)
       (a .disk-length) i 0 o f least found-new whole (omega (arith, len, count)))
       ∙ (ap (λ ps. joinPages (take (pageCount o) (drop 0 ps))) (a .pages)
       ∙ (ap (λ n. joinPages (take n (drop 0 (cutPages (pageCount bs) bs))))

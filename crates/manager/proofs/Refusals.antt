@@ -6,7 +6,8 @@ use native.Mathlib.Omega.{arith}
 use lib.ListN.{length}
 use Rattle.catalogue.specs.Encoding.{encode}
 use Rattle.catalogue.specs.Reading.{Reading, readCatalogue, sound, unsound}
-use Rattle.catalogue.specs.Version.{Version}
+use Rattle.catalogue.specs.Version.{versionOf}
+use Rattle.catalogue.specs.declared.Version.{Version}
 use Rattle.layout.specs.Adding.{Allocated, allocate, allocated, tooFew}
 use Rattle.layout.specs.Layout.{Found, findFile, found, freshLayout, missing}
 use Rattle.layout.specs.Removing.{copiesOf, removal}
@@ -15,9 +16,10 @@ use Rattle.manager.specs.Conditions.{Judgement, Outcome, Reply, addCondi
 use Rattle.manager.specs.Conditions.{firstRefusal, formatConditions, outcome, readConditions, refusal}
 use Rattle.manager.specs.Conditions.{refused, removeConditions, unlessRefused}
 use Rattle.manager.specs.Disk.{pageCount}
-use Rattle.manager.specs.Outcomes.{addOutcome, addPieces, breaksReply, checkReply, doAdd, doRead, doRemove}
-use Rattle.manager.specs.Outcomes.{formatOutcome, freeReply, perform, readFound, readOutcome, removeFound}
-use Rattle.manager.specs.Outcomes.{removeOutcome}
+use Rattle.manager.specs.Outcomes.{addIn, addPieces, breaksReply, checkReply, doAdd, doRead, doRemove}
+use Rattle.manager.specs.Outcomes.{formatIn, formatOutcome, freeReply, perform, readFound, readIn}
+use Rattle.manager.specs.Outcomes.{removeFound, removeIn}
+use Rattle.section.specs.Limits.{heightCount}
 
 -- the buffers after a call are those before it
 pub record Unchanged (cat d o : List ℕ) (x : Outcome) : Type 0 where
@@ -44,7 +46,7 @@ module _ (cat d : List ℕ) where
 
   add-unchanged : (v : Version) (i : ℕ) (bs : List ℕ) (x : Reading)
       → RefusedUnchanged cat d [] (doAdd v i bs cat d x)
-  add-unchanged v i bs (sound l) = go (allocate 0 (v .heights) (pageCount bs) (l .free))
+  add-unchanged v i bs (sound l) = go (allocate 0 heightCount (pageCount bs) (l .free))
     where
       go : (a : Allocated) → RefusedUnchanged cat d [] (addPieces v i bs cat d l a)
       go (allocated s r) n e = absurd (answered-not-refused (pageCount bs) n e)
@@ -55,7 +57,7 @@ module _ (cat d : List ℕ) where
   remove-unchanged v i (sound l) = go (findFile i (l .files))
     where
       go : (x : Found) → RefusedUnchanged cat d [] (removeFound v cat d l x)
-      go (found f) n e = absurd (answered-not-refused (length (copiesOf (removal (v .heights) f l))) n e)
+      go (found f) n e = absurd (answered-not-refused (length (copiesOf (removal heightCount f l))) n e)
       go missing n e = same-buffers (refused 6) []
   remove-unchanged v i unsound = λ n e. same-buffers (refused 3) []
 
@@ -68,29 +70,32 @@ module _ (cat d : List ℕ) where
   read-unchanged i p o unsound = λ n e. same-buffers (refused 3) o
 
 -- a call of a list that is refused changes no buffer
-pub refused-changes-nothing : (v : Version) (c : Call) (cat d : List ℕ) (n : ℕ)
-    → perform v c cat d .reply ≡ refused n
-    → Unchanged cat d (outputOf c) (perform v c cat d)
-unfolding addOutcome removeOutcome readOutcome
-refused-changes-nothing v (add i bs) cat d =
-    unless-unchanged cat d [] (firstRefusal (addConditions v i bs cat d)) (doAdd v i bs cat d (readCatalogue v cat))
-    (add-unchanged cat d v i bs (readCatalogue v cat))
-refused-changes-nothing v (remove i) cat d =
-    unless-unchanged cat d [] (firstRefusal (removeConditions v i cat d)) (doRemove v i cat d (readCatalogue v cat))
-    (remove-unchanged cat d v i (readCatalogue v cat))
-refused-changes-nothing v (read i p o) cat d =
-    unless-unchanged cat d o (firstRefusal (readConditions v i p o cat d))
-    (doRead i p o cat d (readCatalogue v cat)) (read-unchanged cat d i p o (readCatalogue v cat))
-refused-changes-nothing v (breaks i) cat d = λ n e. same-buffers cat d (breaksReply v i cat) []
-refused-changes-nothing v free cat d = λ n e. same-buffers cat d (freeReply v cat) []
-refused-changes-nothing v check cat d = λ n e. same-buffers cat d (checkReply v cat d) []
+pub refused-changes-nothing : (c : Call) (cat d : List ℕ) (n : ℕ)
+    → perform c cat d .reply ≡ refused n
+    → Unchanged cat d (outputOf c) (perform c cat d)
+unfolding addIn removeIn readIn
+refused-changes-nothing (add i bs) cat d =
+    unless-unchanged cat d [] (firstRefusal (addConditions (versionOf cat) i bs cat d))
+    (doAdd (versionOf cat) i bs cat d (readCatalogue (versionOf cat) cat))
+    (add-unchanged cat d (versionOf cat) i bs (readCatalogue (versionOf cat) cat))
+refused-changes-nothing (remove i) cat d =
+    unless-unchanged cat d [] (firstRefusal (removeConditions (versionOf cat) i cat d))
+    (doRemove (versionOf cat) i cat d (readCatalogue (versionOf cat) cat))
+    (remove-unchanged cat d (versionOf cat) i (readCatalogue (versionOf cat) cat))
+refused-changes-nothing (read i p o) cat d =
+    unless-unchanged cat d o (firstRefusal (readConditions (versionOf cat) i p o cat d))
+    (doRead i p o cat d (readCatalogue (versionOf cat) cat))
+    (read-unchanged cat d i p o (readCatalogue (versionOf cat) cat))
+refused-changes-nothing (breaks i) cat d = λ n e. same-buffers cat d (breaksReply i cat) []
+refused-changes-nothing free cat d = λ n e. same-buffers cat d (freeReply cat) []
+refused-changes-nothing check cat d = λ n e. same-buffers cat d (checkReply cat d) []
 
 -- a format that is refused changes no buffer
-pub format-refused-changes-nothing : (v : Version) (cat d : List ℕ) (n : ℕ)
-    → formatOutcome v cat d .reply ≡ refused n
-    → Unchanged cat d [] (formatOutcome v cat d)
-unfolding formatOutcome
-format-refused-changes-nothing v cat d =
-    unless-unchanged cat d [] (firstRefusal (formatConditions v cat d))
-    (outcome (answered (pageCount d)) (encode v (freshLayout (v .heights) (pageCount d))) d [])
+pub format-refused-changes-nothing : (cat d : List ℕ) (n : ℕ)
+    → formatOutcome cat d .reply ≡ refused n
+    → Unchanged cat d [] (formatOutcome cat d)
+unfolding formatIn
+format-refused-changes-nothing cat d =
+    unless-unchanged cat d [] (firstRefusal (formatConditions (versionOf cat) cat d))
+    (outcome (answered (pageCount d)) (encode (versionOf cat) (freshLayout heightCount (pageCount d))) d [])
     (λ n e. absurd (answered-not-refused (pageCount d) n e))

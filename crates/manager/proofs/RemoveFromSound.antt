@@ -9,13 +9,12 @@ use lib.ListN.{length}
 use borrow.Author.Tests.{ne-eqb}
 use Rattle.catalogue.proofs.Roomy.{Roomy}
 use Rattle.catalogue.specs.Encoding.{encode}
-use Rattle.catalogue.specs.Version.{Version}
+use Rattle.catalogue.specs.declared.Version.{Version}
 use Rattle.layout.proofs.Finding.{Find, find-id, found-find}
 use Rattle.layout.proofs.MergeAll.{merged-reach}
 use Rattle.layout.proofs.Origins.{InDisk, origin-off}
 use Rattle.layout.proofs.Removed.{Removes, removal-keeps}
 use Rattle.layout.proofs.SoundSums.{SoundSums}
-use Rattle.layout.proofs.Soundness.{sound-sums, sums-sound}
 use Rattle.layout.specs.Carries.{carries}
 use Rattle.layout.specs.Layout.{File, Layout, fileBlocks, findFile, found, freeBlocks, hasFile, isFound}
 use Rattle.layout.specs.Lists.{Each, done, more}
@@ -31,48 +30,52 @@ use Rattle.manager.specs.Conditions.{unlessRefused}
 use Rattle.manager.specs.Disk.{block, runCopies}
 use Rattle.manager.specs.Outcomes.{afterMerges, removeFound, removeOutcome}
 use Rattle.manager.specs.WholeList.{lineOn}
-use Rattle.section.specs.Limits.{blockSize}
+use Rattle.section.specs.Limits.{blockSize, heightCount}
+use Rattle.manager.proofs.AllHeights.{all-heights, own-heights}
+use Rattle.catalogue.specs.Version.{greatestBlocks}
 
 -- all that a removal of the file f from the layout l does, with its merges ms
 pub record RemovesFrom (v : Version) (l : Layout) (d : List ℕ) (f : File) (o : Outcome) : Type 0 where
-  pub reply : o .reply ≡ answered (length (copiesOf (removal (v .heights) f l)))
-  pub catalogue : o .catalogue ≡ encode v (layoutAfter (release f l) (removal (v .heights) f l))
-  pub sound-after : Sound (v .heights) (layoutAfter (release f l) (removal (v .heights) f l))
-  pub blocks : layoutAfter (release f l) (removal (v .heights) f l) .blocks ≡ l .blocks
-  pub disk : o .disk ≡ runCopies d (copiesOf (removal (v .heights) f l))
+  pub reply : o .reply ≡ answered (length (copiesOf (removal heightCount f l)))
+  pub catalogue : o .catalogue ≡ encode v (layoutAfter (release f l) (removal heightCount f l))
+  pub sound-after : Sound (v .heights) (layoutAfter (release f l) (removal heightCount f l))
+  pub blocks : layoutAfter (release f l) (removal heightCount f l) .blocks ≡ l .blocks
+  pub disk : o .disk ≡ runCopies d (copiesOf (removal heightCount f l))
   pub disk-length : length (o .disk) ≡ blockSize * l .blocks
   pub output : o .output ≡ []
   -- the other files keep their pages
-  pub lines : map (lineOn (o .disk)) (layoutAfter (release f l) (removal (v .heights) f l) .files)
+  pub lines : map (lineOn (o .disk)) (layoutAfter (release f l) (removal heightCount f l) .files)
       ≡ strikeLine (f .id) (map (lineOn d) (l .files))
   -- blocks that are not copied to keep their bytes
-  pub others : (x : ℕ) → Each (λ (c : Copy). x ≡ c .target → ⊥) (copiesOf (removal (v .heights) f l))
+  pub others : (x : ℕ) → Each (λ (c : Copy). x ≡ c .target → ⊥) (copiesOf (removal heightCount f l))
       → block (o .disk) x ≡ block d x
   -- copies stay within the carries of f + n
-  pub limit : length (copiesOf (removal (v .heights) f l)) ≤ carries (v .heights) (freeBlocks l) (fileBlocks f)
+  pub limit : length (copiesOf (removal heightCount f l)) ≤ carries heightCount (freeBlocks l) (fileBlocks f)
 
 module _ (v : Version) (room : Roomy v) (l : Layout) (s : Sound (v .heights) l) (d : List ℕ)
     (ld : length d ≡ blockSize * l .blocks)
     (i : ℕ) (f : File) (e : findFile i (l .files) ≡ found f) where
-  sums : SoundSums (v .heights) l
-  sums = sound-sums (v .heights) l (omega (arith, room .some-heights)) s
+  sums : SoundSums heightCount l
+  sums = all-heights v room l s
 
   others-left : (r : List File) × Find i (l .files) f r
   others-left = found-find i (l .files) f e
 
-  kept : Removes (v .heights) l f (others-left .0) (removal (v .heights) f l)
-  kept = removal-keeps (v .heights) i l f (others-left .0) sums (others-left .1)
+  kept : Removes heightCount l f (others-left .0) (removal heightCount f l)
+  kept = removal-keeps heightCount i l f (others-left .0) sums (others-left .1)
 
-  reach : Each (InDisk (l .blocks)) (copiesOf (removal (v .heights) f l))
+  reach : Each (InDisk (l .blocks)) (copiesOf (removal heightCount f l))
   reach = merged-reach (kept .steps)
 
-  pub removes : RemovesFrom v l d f (afterMerges v (release f l) d (removal (v .heights) f l))
+  pub removes : RemovesFrom v l d f (afterMerges v (release f l) d (removal heightCount f l))
   removes = record {
     reply = refl;
     catalogue = refl;
     disk = refl;
     output = refl;
-    sound-after = sums-sound (v .heights) (layoutAfter (release f l) (removal (v .heights) f l)) (kept .sound);
+    sound-after =
+        own-heights v room (layoutAfter (release f l) (removal heightCount f l))
+        (subst (λ n. n ≤ greatestBlocks v) (sym (kept .blocks)) (s .most-blocks)) (kept .sound);
     blocks = kept .blocks;
     disk-length = copies-length (l .blocks) d ld reach ∙ ld;
     lines =
@@ -90,7 +93,7 @@ module _ (v : Version) (room : Roomy v) (l : Layout) (s : Sound (v .heights) l) 
       (more {a = condition 6 (not (hasFile i (l .files)))} (ap (λ x. not (isFound x)) e) done))
 
   -- from any sound catalogue
-  pub remove-from-sound : 1 ≤ i → RemovesFrom v l d f (removeOutcome v i (encode v l) d)
+  pub remove-from-sound : 1 ≤ i → RemovesFrom v l d f (removeOutcome i (encode v l) d)
   remove-from-sound least =
       subst (RemovesFrom v l d f) (sym (remove-on-sound v room l s d ld i))
       (subst (λ j. RemovesFrom v l d f

@@ -5,14 +5,12 @@ use mathlib.Core.Path.{_∙_, _≡_, ap, refl, subst, sym}
 use Prim.Native.Nat.{_*_, _-_, _<_, ℕ}
 use native.Mathlib.Omega.{arith}
 use lib.ListN.{length}
-use Rattle.catalogue.proofs.Roomy.{Roomy}
 use Rattle.catalogue.proofs.Size.{encode-bytes, encode-length}
 use Rattle.catalogue.specs.Encoding.{encode}
-use Rattle.catalogue.specs.Version.{Version}
+use Rattle.catalogue.specs.declared.Version.{Version}
 use Rattle.layout.proofs.Lists.{each-imp, pairwise-imp}
 use Rattle.layout.proofs.Ones.{distinct-ones}
 use Rattle.layout.proofs.Ranges.{inRange-inside}
-use Rattle.layout.proofs.Soundness.{sound-sums}
 use Rattle.layout.specs.Layout.{File, Layout, OnePiecePerOne, fileBlocks, freeBlocks}
 use Rattle.layout.specs.Lists.{Each, Pairwise}
 use Rattle.layout.specs.Sound.{Sound}
@@ -22,6 +20,9 @@ use Rattle.manager.specs.WholeList.{Afterwards, lineOn}
 use Rattle.section.specs.Limits.{blockSize}
 use Rattle.section.specs.Sections.{lengthOf}
 use Rattle.section.specs.declared.Section.{Section}
+use Rattle.manager.proofs.AllHeights.{all-heights}
+use Rattle.catalogue.proofs.Roomy.{roomy}
+use Rattle.catalogue.specs.Version.{OneOf, versions}
 
 -- the book of a layout on a disk
 abbrev pub bookOn : List ℕ → Layout → Book
@@ -44,16 +45,18 @@ files-ones : (fs : List File)
 files-ones fs e =
     each-imp (λ f p. distinct-ones (fileBlocks f) (f .pieces) (pairwise-imp (λ s t q z. omega (arith, q)) p) refl) e
 
-module _ (v : Version) (room : Roomy v) where
+module _ (v : Version) (known : OneOf v versions) where
   standing-on : (d : List ℕ) (l : Layout) → Sound (v .heights) l → length d ≡ blockSize * l .blocks
       → Afterwards v (encode v l) d (bookOn d l)
   standing-on d l s ld =
-      let sums = sound-sums (v .heights) l (omega (arith, room .some-heights)) s in
+      let room = roomy known in
+      let sums = all-heights v room l s in
       record {
         layout = l;
         catalogue-length = encode-length v room l s;
         catalogue-bytes = encode-bytes v l;
-        catalogue = record { encoded = refl; rules = s };
+        catalogue = record { version = v; known = known; encoded = refl; rules = s };
+        version = refl;
         blocks = refl;
         disk-length = ld;
         lines = refl;

@@ -4,10 +4,9 @@ use mathlib.Core.Path.{_∙_, _≡_, ap, ap₂, refl, subst, sym}
 use Prim.Native.Nat.{_*_, _≤_, ℕ}
 use native.Mathlib.Omega.{arith}
 use lib.ListN.{length}
-use Rattle.catalogue.proofs.Reading.{encode-unique}
 use Rattle.catalogue.proofs.Roomy.{Roomy}
 use Rattle.catalogue.specs.Encoding.{encode}
-use Rattle.catalogue.specs.Version.{Version}
+use Rattle.catalogue.specs.declared.Version.{Version}
 use Rattle.layout.proofs.Finding.{find-id, found-find}
 use Rattle.layout.proofs.Swaps.{same}
 use Rattle.layout.specs.Adding.{withFile}
@@ -27,7 +26,9 @@ use Rattle.manager.specs.Conditions.{Outcome, answered, outcome, refused
 use Rattle.manager.specs.Outcomes.{perform}
 use Rattle.manager.specs.Table.{CatalogueOf}
 use Rattle.manager.specs.WholeList.{Alters, Answered, CallAgrees, RepliesAgree, lineOn}
-use Rattle.section.specs.Limits.{blockSize}
+use Rattle.section.specs.Limits.{blockSize, heightCount}
+use Rattle.catalogue.proofs.Roomy.{roomy}
+use Rattle.catalogue.proofs.Versions.{encoded-once}
 
 -- one call's claims over any outcome and any step of the book, and what stands afterwards
 pub record StepClaim (v : Version) (c : Call) (cat d : List ℕ) (b : Book) (o : Outcome)
@@ -37,17 +38,17 @@ pub record StepClaim (v : Version) (c : Call) (cat d : List ℕ) (b : Book) (o :
   pub catalogue-kept : (Alters c (o .reply) → ⊥) → o .catalogue ≡ cat
   pub disk-kept : (Alters c (o .reply) → ⊥) → o .disk ≡ d
   pub book-kept : (Alters c (o .reply) → ⊥) → s .book ≡ b
-  pub copies : (i k : ℕ) (l : Layout) (f : File) → c ≡ remove i → o .reply ≡ answered k → CatalogueOf v cat l
-      → findFile i (l .files) ≡ found f → k ≡ length (copiesOf (removal (v .heights) f l))
+  pub copies : (i k : ℕ) (l : Layout) (f : File) → c ≡ remove i → o .reply ≡ answered k → CatalogueOf cat l
+      → findFile i (l .files) ≡ found f → k ≡ length (copiesOf (removal heightCount f l))
   pub limit : (i k : ℕ) (x : Line) → c ≡ remove i → o .reply ≡ answered k → lineWith i (b .lines) ≡ line x
-      → k ≤ carries (v .heights) (bookFree b) (length (x .pages))
-  pub breaks-answer : (i k : ℕ) (l : Layout) (f : File) → c ≡ breaks i → o .reply ≡ answered k → CatalogueOf v cat l
+      → k ≤ carries heightCount (bookFree b) (length (x .pages))
+  pub breaks-answer : (i k : ℕ) (l : Layout) (f : File) → c ≡ breaks i → o .reply ≡ answered k → CatalogueOf cat l
       → findFile i (l .files) ≡ found f → k ≡ breaksOf (f .pieces)
   pub standing : Standing v (o .catalogue) (o .disk) (s .book)
 
 -- the claims of specs/WholeList, from those on a call's own outcome
 pub claim-agrees : (v : Version) (c : Call) (cat d : List ℕ) (b : Book)
-    → StepClaim v c cat d b (perform v c cat d) (inBook c b) → CallAgrees v c cat d b
+    → StepClaim v c cat d b (perform c cat d) (inBook c b) → CallAgrees c cat d b
 claim-agrees v c cat d b s = record {
   reply = s .reply;
   output = s .output;
@@ -77,10 +78,10 @@ module _ (v : Version) (room : Roomy v) (l : Layout) (s : Sound (v .heights) l) 
   stands = record { layout = l; encoded = refl; rules = s; disk-length = ld; book = refl }
 
   -- the layout of the catalogue is no other
-  pub same-layout : (m : Layout) → CatalogueOf v (encode v l) m → m ≡ l
-  same-layout m w = encode-unique v room m l (w .rules) s (sym (w .encoded))
+  pub same-layout : (m : Layout) → CatalogueOf (encode v l) m → m ≡ l
+  same-layout m w = encoded-once (w .version) v (roomy (w .known)) room m l (w .rules) s (sym (w .encoded)) .1
 
-  pub same-file : (i : ℕ) (m : Layout) (f g : File) → CatalogueOf v (encode v l) m → findFile i (m .files) ≡ found f
+  pub same-file : (i : ℕ) (m : Layout) (f g : File) → CatalogueOf (encode v l) m → findFile i (m .files) ≡ found f
       → findFile i (l .files) ≡ found g → f ≡ g
   same-file i m f g w p q =
       let e : findFile i (m .files) ≡ findFile i (l .files) =
@@ -145,12 +146,12 @@ module _ (v : Version) (room : Roomy v) (l : Layout) (s : Sound (v .heights) l) 
         (let z : i ≡ j = cc in
         let same = same-file i m g f w (ap (λ t. findFile t (m .files)) z ∙ p) e in
         let lay = same-layout m w in
-        answered-same k (length (copiesOf (removal (v .heights) f l))) (sym r ∙ a .reply)
-        ∙ ap₂ (λ (x : File) (y : Layout). length (copiesOf (removal (v .heights) x y))) (sym same) (sym lay));
+        answered-same k (length (copiesOf (removal heightCount f l))) (sym r ∙ a .reply)
+        ∙ ap₂ (λ (x : File) (y : Layout). length (copiesOf (removal heightCount x y))) (sym same) (sym lay));
     limit = λ j k x q r p. bounded j k x (let z : i ≡ j = cc in z) r p;
     breaks-answer = λ j k m g q r. absurd (let z : _≡_ {A = ℕ} 0 1 = cc in omega arith);
     standing = record {
-      layout = layoutAfter (release f l) (removal (v .heights) f l);
+      layout = layoutAfter (release f l) (removal heightCount f l);
       encoded = a .catalogue;
       rules = a .sound-after;
       disk-length = a .disk-length ∙ ap (λ z. blockSize * z) (sym (a .blocks));
@@ -166,22 +167,22 @@ module _ (v : Version) (room : Roomy v) (l : Layout) (s : Sound (v .heights) l) 
 
       bounded : (j k : ℕ) (x : Line) → i ≡ j → o .reply ≡ answered k
           → lineWith j (map (lineOn d) (l .files)) ≡ line x
-          → k ≤ carries (v .heights) (bookFree (bookOn d l)) (length (x .pages))
+          → k ≤ carries heightCount (bookFree (bookOn d l)) (length (x .pages))
       bounded j k x z r p =
-          let n = answered-same k (length (copiesOf (removal (v .heights) f l))) (sym r ∙ a .reply) in
+          let n = answered-same k (length (copiesOf (removal heightCount f l))) (sym r ∙ a .reply) in
           let q : line (lineOn d f) ≡ line x = sym (line-with d i (l .files) ∙ ap (lineFound d) e)
           ∙ (ap (λ t. lineWith t (map (lineOn d) (l .files))) z ∙ p) in
           let lines : lineOn d f ≡ x = cc in
           let pages : fileBlocks f ≡ length (x .pages) =
           sym (pages-length d (f .pieces)) ∙ ap (λ (y : Line). length (y .pages)) lines in
-          subst (λ m. m ≤ carries (v .heights) (bookFree (bookOn d l)) (length (x .pages))) (sym n)
-          (subst (λ m. length (copiesOf (removal (v .heights) f l)) ≤ m)
-          (ap₂ (carries (v .heights)) (sym (book-free d l)) pages) (a .limit))
+          subst (λ m. m ≤ carries heightCount (bookFree (bookOn d l)) (length (x .pages))) (sym n)
+          (subst (λ m. length (copiesOf (removal heightCount f l)) ≤ m)
+          (ap₂ (carries heightCount) (sym (book-free d l)) pages) (a .limit))
 
   -- an answer that alters nothing
   pub answered-claim : (c : Call) (n : ℕ) (r : BookReply) (o : List ℕ) → RepliesAgree (answered n) r
       → ((i k : ℕ) → c ≡ remove i → ⊥)
-      → ((i k : ℕ) (m : Layout) (f : File) → c ≡ breaks i → answered n ≡ answered k → CatalogueOf v cat m
+      → ((i k : ℕ) (m : Layout) (f : File) → c ≡ breaks i → answered n ≡ answered k → CatalogueOf cat m
       → findFile i (m .files) ≡ found f → k ≡ breaksOf (f .pieces))
       → StepClaim v c cat d b (outcome (answered n) cat d o) (record { reply = r; book = b; output = o })
   answered-claim c n r o agree notRemove breaks-is = record {

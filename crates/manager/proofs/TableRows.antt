@@ -10,13 +10,15 @@ use lib.Dec.{eqb, leb, ltb}
 use lib.ListN.{length}
 use borrow.Author.Tests.{eqb-true, not-false, not-true}
 use Rattle.catalogue.proofs.Fields.{Bytes}
-use Rattle.catalogue.proofs.Reading.{encode-unique, reading-iff}
-use Rattle.catalogue.proofs.Roomy.{Roomy}
+use Rattle.catalogue.proofs.Roomy.{roomy}
+use Rattle.catalogue.proofs.Versions.{encoded-once}
 use Rattle.catalogue.specs.Reading.{Reading, readCatalogue, sound, unsound}
-use Rattle.catalogue.specs.Version.{Version}
+use Rattle.catalogue.specs.Version.{versionOf}
+use Rattle.catalogue.specs.declared.Version.{Version}
 use Rattle.layout.proofs.Finding.{Find, find, here, missing-none, there}
 use Rattle.layout.specs.Layout.{File, Found, Layout, fileBlocks, findFile, found, freeBlocks, hasFile, missing}
 use Rattle.layout.specs.Lists.{Each, more}
+use Rattle.manager.proofs.Catalogues.{decides-length, read-catalogue, unread-catalogue}
 use Rattle.manager.proofs.ConditionLists.{Judges, belowAll, judges-end, judges-row}
 use Rattle.manager.proofs.Deciding.{Decides, decides-at-most, decides-below, decides-equal, decides-false}
 use Rattle.manager.proofs.Deciding.{decides-not, decides-opposite, decides-or, decides-same, decides-true}
@@ -31,17 +33,17 @@ use Rattle.manager.specs.Table.{numbersOf, pastEnd}
 use Rattle.section.specs.Limits.{blockSize, mostFiles}
 
 -- the conditions of a call, in order
-abbrev pub conditionsOf : Version → Call → List ℕ → List ℕ → List Condition
-conditionsOf v (add i bs) cat d = addConditions v i bs cat d
-conditionsOf v (remove i) cat d = removeConditions v i cat d
-conditionsOf v (read i p o) cat d = readConditions v i p o cat d
-conditionsOf v (breaks i) cat d = breaksConditions v i cat
-conditionsOf v free cat d = freeConditions v cat
-conditionsOf v check cat d = checkConditions v cat d
+abbrev pub conditionsOf : Call → List ℕ → List ℕ → List Condition
+conditionsOf (add i bs) cat d = addConditions (versionOf cat) i bs cat d
+conditionsOf (remove i) cat d = removeConditions (versionOf cat) i cat d
+conditionsOf (read i p o) cat d = readConditions (versionOf cat) i p o cat d
+conditionsOf (breaks i) cat d = breaksConditions (versionOf cat) i cat
+conditionsOf free cat d = freeConditions (versionOf cat) cat
+conditionsOf check cat d = checkConditions (versionOf cat) cat d
 
 -- the rows of the table that are given
-abbrev pub GivenTo : Version → Call → List ℕ → List ℕ → Refusal → Type 0
-GivenTo v c cat d r = GivenIf v r c cat d
+abbrev pub GivenTo : Call → List ℕ → List ℕ → Refusal → Type 0
+GivenTo c cat d r = GivenIf r c cat d
 
 -- a file is found exactly if not every file has another id
 pub decides-no-file : (i : ℕ) (l : Layout) → Decides (NoFile i l) (not (hasFile i (l .files)))
@@ -71,66 +73,59 @@ pub decides-unpaged : (bs : List ℕ) → Decides ((length bs ≡ 0) ⊎ (length
 decides-unpaged bs =
     decides-or (decides-equal (length bs) 0) (decides-not (decides-equal (length bs % blockSize) 0))
 
-module _ (v : Version) (room : Roomy v) (cat : List ℕ) (bytes : Bytes cat) (n : length cat ≡ v .bytes) where
-  -- the layout that is read is the catalogue's
-  pub read-catalogue : (l : Layout) → readCatalogue v cat ≡ sound l → CatalogueOf v cat l
-  read-catalogue l e = let w = reading-iff v room cat l bytes n .0 e in record { encoded = w .0; rules = w .1 }
+module _ (cat d : List ℕ) (bytes : Bytes cat) where
+  abbrev v : Version
+  v = versionOf cat
 
-  -- if none is read the catalogue is that of no layout
-  pub unread-catalogue : readCatalogue v cat ≡ unsound → (l : Layout) → CatalogueOf v cat l → ⊥
-  unread-catalogue e l h =
-      let s = reading-iff v room cat l bytes n .1 (h .encoded, h .rules) in
-      let z : _≡_ {A = ℕ} 0 1 = cc in
-      omega arith
-
-module _ (v : Version) (room : Roomy v) (cat d : List ℕ) (bytes : Bytes cat) where
   -- a statement about the one layout that the catalogue encodes
-  decides-layout : (P : Layout → Type 0) (l : Layout) → CatalogueOf v cat l → {b : Bool} → Decides (P l) b
-      → Decides ((m : Layout) × CatalogueOf v cat m × P m) b
+  decides-layout : (P : Layout → Type 0) (l : Layout) → CatalogueOf cat l → {b : Bool} → Decides (P l) b
+      → Decides ((m : Layout) × CatalogueOf cat m × P m) b
   decides-layout P l h = decides-same (λ p. (l, h, p)) (λ w. subst P (one-layout (w .0) (w .1)) (w .2))
     where
-      one-layout : (m : Layout) → CatalogueOf v cat m → m ≡ l
-      one-layout m k = encode-unique v room m l (k .rules) (h .rules) (sym (k .encoded) ∙ h .encoded)
+      one-layout : (m : Layout) → CatalogueOf cat m → m ≡ l
+      one-layout m k =
+          encoded-once (k .version) (h .version) (roomy (k .known)) (roomy (h .known)) m l (k .rules) (h .rules)
+          (sym (k .encoded) ∙ h .encoded) .1
 
   -- the conditions 1 and 3, that every call begins with
   judges-catalogue : (c : Call) {ns : List ℕ} (conditions : Layout → List Condition) → belowAll 1 (3 ∷ ns) ≡ true
       → belowAll 3 ns ≡ true
-      → ((l : Layout) → CatalogueOf v cat l → Judges (GivenTo v c cat d) ns (conditions l))
-      → Judges (GivenTo v c cat d) (1 ∷ 3 ∷ ns)
+      → ((l : Layout) → CatalogueOf cat l → Judges (GivenTo c cat d) ns (conditions l))
+      → Judges (GivenTo c cat d) (1 ∷ 3 ∷ ns)
       (condition 1 (wrongCatalogue v cat) ∷ onLayout (readCatalogue v cat) conditions)
   judges-catalogue c {ns} conditions one three others =
-      judges-row catalogueLength one (decides-not (decides-equal (length cat) (v .bytes)))
+      judges-row catalogueLength one (decides-length cat)
       λ e. go (eqb-true (length cat) (v .bytes) (not-false (eqb (length cat) (v .bytes)) e))
       (readCatalogue v cat) refl
     where
       go : length cat ≡ v .bytes → (x : Reading) → readCatalogue v cat ≡ x
-          → Judges (GivenTo v c cat d) (3 ∷ ns) (onLayout x conditions)
+          → Judges (GivenTo c cat d) (3 ∷ ns) (onLayout x conditions)
       go n (sound l) e =
-          let h = read-catalogue v room cat bytes n l e in
+          let h = read-catalogue cat bytes n l e in
           judges-row notSound three (decides-false λ no-layout. no-layout l h) λ _. others l h
       go n unsound e =
-          judges-row notSound three (decides-true (unread-catalogue v room cat bytes n e))
+          judges-row notSound three (decides-true (unread-catalogue cat bytes n e))
           λ f. absurd (let z : _≡_ {A = ℕ} 0 1 = cc in omega arith)
 
   -- the conditions that need the layout
-  disk-row : (l : Layout) → CatalogueOf v cat l
-      → Decides ((m : Layout) × CatalogueOf v cat m × (length d ≡ blockSize * m .blocks → ⊥)) (wrongDisk l d)
+  disk-row : (l : Layout) → CatalogueOf cat l
+      → Decides ((m : Layout) × CatalogueOf cat m × (length d ≡ blockSize * m .blocks → ⊥)) (wrongDisk l d)
   disk-row l h =
       decides-layout (λ m. length d ≡ blockSize * m .blocks → ⊥) l h
       (decides-not (decides-equal (length d) (blockSize * l .blocks)))
 
-  missing-row : (i : ℕ) (l : Layout) → CatalogueOf v cat l
-      → Decides ((m : Layout) × CatalogueOf v cat m × NoFile i m) (not (hasFile i (l .files)))
+  missing-row : (i : ℕ) (l : Layout) → CatalogueOf cat l
+      → Decides ((m : Layout) × CatalogueOf cat m × NoFile i m) (not (hasFile i (l .files)))
   missing-row i l h = decides-layout (NoFile i) l h (decides-no-file i l)
 
-  there-row : (i : ℕ) (l : Layout) → CatalogueOf v cat l
-      → Decides ((m : Layout) × CatalogueOf v cat m × (NoFile i m → ⊥)) (hasFile i (l .files))
+  there-row : (i : ℕ) (l : Layout) → CatalogueOf cat l
+      → Decides ((m : Layout) × CatalogueOf cat m × (NoFile i m → ⊥)) (hasFile i (l .files))
   there-row i l h =
       decides-layout (λ m. NoFile i m → ⊥) l h (decides-opposite (hasFile i (l .files)) (decides-no-file i l))
 
-  past-end-row : (i first count : ℕ) (l : Layout) → CatalogueOf v cat l
+  past-end-row : (i first count : ℕ) (l : Layout) → CatalogueOf cat l
       → Decides
-      ((m : Layout) × CatalogueOf v cat m × (f : File) × (findFile i (m .files) ≡ found f)
+      ((m : Layout) × CatalogueOf cat m × (f : File) × (findFile i (m .files) ≡ found f)
       × (fileBlocks f < first + count))
       (beyond (findFile i (l .files)) first count)
   past-end-row i first count l h =
@@ -138,18 +133,18 @@ module _ (v : Version) (room : Roomy v) (cat d : List ℕ) (bytes : Bytes cat) w
       (decides-layout (λ m. (f : File) × (findFile i (m .files) ≡ found f) × (fileBlocks f < first + count)) l h
       (decides-past-end (findFile i (l .files)) first count))
 
-  full-row : (l : Layout) → CatalogueOf v cat l
-      → Decides ((m : Layout) × CatalogueOf v cat m × (mostFiles ≤ length (m .files)))
+  full-row : (l : Layout) → CatalogueOf cat l
+      → Decides ((m : Layout) × CatalogueOf cat m × (mostFiles ≤ length (m .files)))
       (leb mostFiles (length (l .files)))
   full-row l h =
       decides-layout (λ m. mostFiles ≤ length (m .files)) l h (decides-at-most mostFiles (length (l .files)))
 
-  space-row : (count : ℕ) (l : Layout) → CatalogueOf v cat l
-      → Decides ((m : Layout) × CatalogueOf v cat m × (freeBlocks m < count)) (ltb (freeBlocks l) count)
+  space-row : (count : ℕ) (l : Layout) → CatalogueOf cat l
+      → Decides ((m : Layout) × CatalogueOf cat m × (freeBlocks m < count)) (ltb (freeBlocks l) count)
   space-row count l h = decides-layout (λ m. freeBlocks m < count) l h (decides-below (freeBlocks l) count)
 
   -- the first refusal of a call's conditions is the table's
-  pub call-judged : (c : Call) → Judges (GivenTo v c cat d) (numbersOf c) (conditionsOf v c cat d)
+  pub call-judged : (c : Call) → Judges (GivenTo c cat d) (numbersOf c) (conditionsOf c cat d)
   call-judged (add i bs) =
       judges-catalogue (add i bs) _ refl refl λ l h.
       judges-row diskLength refl (disk-row l h) λ _.

@@ -6,7 +6,8 @@ use Prim.Native.Nat.{_%_, _*_, _+_, ℕ}
 use lib.Dec.{eqb, leb, ltb}
 use lib.ListN.{length}
 use Rattle.catalogue.specs.Reading.{Reading, readCatalogue, sound, unsound}
-use Rattle.catalogue.specs.Version.{Version, greatestBlocks}
+use Rattle.catalogue.specs.Version.{greatestBlocks}
+use Rattle.catalogue.specs.declared.Version.{Version}
 use Rattle.layout.specs.Layout.{Found, Layout, fileBlocks, findFile, found, freeBlocks, hasFile, missing}
 use Rattle.manager.specs.Disk.{pageCount}
 use Rattle.section.specs.Limits.{blockSize, mostFiles}

@@ -5,7 +5,9 @@ use Prim.Native.Nat.{ℕ}
 use lib.ListN.{drop, length, take}
 use Rattle.catalogue.specs.Encoding.{encode}
 use Rattle.catalogue.specs.Reading.{Reading, readCatalogue, sound, unsound}
-use Rattle.catalogue.specs.Version.{Version}
+use Rattle.catalogue.specs.Version.{versionFor, versionOf}
+use Rattle.catalogue.specs.declared.Version.{Version}
+use Rattle.section.specs.Limits.{heightCount}
 use Rattle.layout.specs.Adding.{Allocated, allocate, allocated, tooFew, withFile}
 use Rattle.layout.specs.Layout.{Found, Layout, blocksOf, breaksOf, findFile, found, freeBlocks, freshLayout}
 use Rattle.layout.specs.Layout.{missing}
@@ -30,7 +32,7 @@ addPieces v i bs cat d l tooFew = outcome (refused 11) cat d []
 
 -- never unsound: condition 3
 abbrev pub doAdd : Version → ℕ → List ℕ → List ℕ → List ℕ → Reading → Outcome
-doAdd v i bs cat d (sound l) = addPieces v i bs cat d l (allocate 0 (v .heights) (pageCount bs) (l .free))
+doAdd v i bs cat d (sound l) = addPieces v i bs cat d l (allocate 0 heightCount (pageCount bs) (l .free))
 doAdd v i bs cat d unsound = outcome (refused 3) cat d []
 
 -- the merges' copies made on the disk, and counted
@@ -40,7 +42,7 @@ afterMerges v l d ms =
 
 -- never missing: condition 6
 abbrev pub removeFound : Version → List ℕ → List ℕ → Layout → Found → Outcome
-removeFound v cat d l (found f) = afterMerges v (release f l) d (removal (v .heights) f l)
+removeFound v cat d l (found f) = afterMerges v (release f l) d (removal heightCount f l)
 removeFound v cat d l missing = outcome (refused 6) cat d []
 
 abbrev pub doRemove : Version → ℕ → List ℕ → List ℕ → Reading → Outcome
@@ -73,41 +75,64 @@ abbrev pub doCheck : Reading → Reply
 doCheck (sound l) = answered (l .blocks)
 doCheck unsound = refused 3
 
--- ---- the calls
+-- ---- the calls, in a catalogue of version v
 
 -- no file, free pairs for the ones of C, and the disk untouched
-unfoldable pub formatOutcome : Version → List ℕ → List ℕ → Outcome
-formatOutcome v cat d =
+unfoldable pub formatIn : Version → List ℕ → List ℕ → Outcome
+formatIn v cat d =
     unlessRefused (firstRefusal (formatConditions v cat d)) cat d []
-    (outcome (answered (pageCount d)) (encode v (freshLayout (v .heights) (pageCount d))) d [])
+    (outcome (answered (pageCount d)) (encode v (freshLayout heightCount (pageCount d))) d [])
 
-unfoldable pub addOutcome : Version → ℕ → List ℕ → List ℕ → List ℕ → Outcome
-addOutcome v i bs cat d =
+unfoldable pub addIn : Version → ℕ → List ℕ → List ℕ → List ℕ → Outcome
+addIn v i bs cat d =
     unlessRefused (firstRefusal (addConditions v i bs cat d)) cat d [] (doAdd v i bs cat d (readCatalogue v cat))
 
-unfoldable pub removeOutcome : Version → ℕ → List ℕ → List ℕ → Outcome
-removeOutcome v i cat d =
+unfoldable pub removeIn : Version → ℕ → List ℕ → List ℕ → Outcome
+removeIn v i cat d =
     unlessRefused (firstRefusal (removeConditions v i cat d)) cat d [] (doRemove v i cat d (readCatalogue v cat))
 
-unfoldable pub readOutcome : Version → ℕ → ℕ → List ℕ → List ℕ → List ℕ → Outcome
-readOutcome v i p o cat d =
+unfoldable pub readIn : Version → ℕ → ℕ → List ℕ → List ℕ → List ℕ → Outcome
+readIn v i p o cat d =
     unlessRefused (firstRefusal (readConditions v i p o cat d)) cat d o (doRead i p o cat d (readCatalogue v cat))
 
 -- breaks and free see the catalogue alone
-unfoldable pub breaksReply : Version → ℕ → List ℕ → Reply
-breaksReply v i cat = replyUnless (firstRefusal (breaksConditions v i cat)) (doBreaks i (readCatalogue v cat))
+unfoldable pub breaksIn : Version → ℕ → List ℕ → Reply
+breaksIn v i cat = replyUnless (firstRefusal (breaksConditions v i cat)) (doBreaks i (readCatalogue v cat))
 
-unfoldable pub freeReply : Version → List ℕ → Reply
-freeReply v cat = replyUnless (firstRefusal (freeConditions v cat)) (doFree (readCatalogue v cat))
+unfoldable pub freeIn : Version → List ℕ → Reply
+freeIn v cat = replyUnless (firstRefusal (freeConditions v cat)) (doFree (readCatalogue v cat))
 
-unfoldable pub checkReply : Version → List ℕ → List ℕ → Reply
-checkReply v cat d = replyUnless (firstRefusal (checkConditions v cat d)) (doCheck (readCatalogue v cat))
+unfoldable pub checkIn : Version → List ℕ → List ℕ → Reply
+checkIn v cat d = replyUnless (firstRefusal (checkConditions v cat d)) (doCheck (readCatalogue v cat))
+
+-- ---- the calls: the version is that of the catalogue, and format's is picked by the buffer's length
+
+abbrev pub formatOutcome : List ℕ → List ℕ → Outcome
+formatOutcome cat d = formatIn (versionFor (length cat)) cat d
+
+abbrev pub addOutcome : ℕ → List ℕ → List ℕ → List ℕ → Outcome
+addOutcome i bs cat d = addIn (versionOf cat) i bs cat d
+
+abbrev pub removeOutcome : ℕ → List ℕ → List ℕ → Outcome
+removeOutcome i cat d = removeIn (versionOf cat) i cat d
+
+abbrev pub readOutcome : ℕ → ℕ → List ℕ → List ℕ → List ℕ → Outcome
+readOutcome i p o cat d = readIn (versionOf cat) i p o cat d
+
+abbrev pub breaksReply : ℕ → List ℕ → Reply
+breaksReply i cat = breaksIn (versionOf cat) i cat
+
+abbrev pub freeReply : List ℕ → Reply
+freeReply cat = freeIn (versionOf cat) cat
+
+abbrev pub checkReply : List ℕ → List ℕ → Reply
+checkReply cat d = checkIn (versionOf cat) cat d
 
 -- a call of a list
-abbrev pub perform : Version → Call → List ℕ → List ℕ → Outcome
-perform v (add i bs) cat d = addOutcome v i bs cat d
-perform v (remove i) cat d = removeOutcome v i cat d
-perform v (read i p o) cat d = readOutcome v i p o cat d
-perform v (breaks i) cat d = outcome (breaksReply v i cat) cat d []
-perform v free cat d = outcome (freeReply v cat) cat d []
-perform v check cat d = outcome (checkReply v cat d) cat d []
+abbrev pub perform : Call → List ℕ → List ℕ → Outcome
+perform (add i bs) cat d = addOutcome i bs cat d
+perform (remove i) cat d = removeOutcome i cat d
+perform (read i p o) cat d = readOutcome i p o cat d
+perform (breaks i) cat d = outcome (breaksReply i cat) cat d []
+perform free cat d = outcome (freeReply cat) cat d []
+perform check cat d = outcome (checkReply cat d) cat d []

@@ -9,7 +9,8 @@ use Rattle.section.specs.declared.Section.{Section}
 use Rattle.section.specs.Sections.{lengthOf}
 use Rattle.layout.specs.Lists.{sortBy}
 use Rattle.layout.specs.Layout.{File, Layout, byFirst, fileBlocks, freeBlocks}
-use Rattle.catalogue.specs.Version.{Version}
+use Rattle.catalogue.specs.Version.{versionOf}
+use Rattle.catalogue.specs.declared.Version.{Version}
 use Rattle.catalogue.specs.Reading.{Reading, sound, unsound, readCatalogue}
 
 -- the byte of the digit 0
@@ -85,10 +86,14 @@ abbrev pub readingText : Reading → List ℕ
 readingText (sound l) = layoutText l
 readingText unsound = refusalText 3
 
--- the output for an input
-unfoldable pub printed : Version → List ℕ → List ℕ
-printed v cat =
+-- the output for an input, in version v
+unfoldable pub printedIn : Version → List ℕ → List ℕ
+printedIn v cat =
     elim (eqb (length cat) (v .bytes)) as (λ _. List ℕ) [
       | true ↦ readingText (readCatalogue v cat)
       | false ↦ refusalText 1
     ]
+
+-- the output for an input, in the version of its length
+abbrev pub printed : List ℕ → List ℕ
+printed cat = printedIn (versionOf cat) cat

@@ -9,7 +9,8 @@ use Prim.Native.Nat.{_%_, _*_, _+_, _<_, _≤_, ℕ}
 use lib.Dec.{eqb}
 use lib.ListN.{length}
 use Rattle.catalogue.specs.Encoding.{encode}
-use Rattle.catalogue.specs.Version.{Version}
+use Rattle.catalogue.specs.Version.{OneOf, versions}
+use Rattle.catalogue.specs.declared.Version.{Version}
 use Rattle.layout.specs.Layout.{File, Layout, fileBlocks, findFile, found, freeBlocks}
 use Rattle.layout.specs.Lists.{Each}
 use Rattle.layout.specs.Sound.{Sound}
@@ -85,33 +86,35 @@ firstPageOf (breaks i) = 0
 firstPageOf free = 0
 firstPageOf check = 0
 
--- the catalogue is the encoding of the sound layout l
-pub record CatalogueOf (v : Version) (cat : List ℕ) (l : Layout) : Type 0 where
-  pub encoded : cat ≡ encode v l
-  pub rules : Sound (v .heights) l
+-- the catalogue is the encoding of the sound layout l in one of the versions
+pub record CatalogueOf (cat : List ℕ) (l : Layout) : Type 0 where
+  pub version : Version
+  pub known : OneOf version versions
+  pub encoded : cat ≡ encode version l
+  pub rules : Sound (version .heights) l
 
 -- no file has the id
 abbrev pub NoFile : ℕ → Layout → Type 0
 NoFile i l = Each (λ (f : File). f .id ≡ i → ⊥) (l .files)
 
 -- the column "Given if"
-abbrev pub GivenIf : Version → Refusal → Call → List ℕ → List ℕ → Type 0
-GivenIf v catalogueLength c cat d = length cat ≡ v .bytes → ⊥
-GivenIf v formatDisk c cat d = ⊥
-GivenIf v notSound c cat d = (l : Layout) → CatalogueOf v cat l → ⊥
-GivenIf v diskLength c cat d = (l : Layout) × CatalogueOf v cat l × (length d ≡ blockSize * l .blocks → ⊥)
-GivenIf v idZero c cat d = idOf c ≡ 0
-GivenIf v idMissing c cat d = (l : Layout) × CatalogueOf v cat l × NoFile (idOf c) l
-GivenIf v idThere c cat d = (l : Layout) × CatalogueOf v cat l × (NoFile (idOf c) l → ⊥)
-GivenIf v bufferLength c cat d = (length (bufferOf c) ≡ 0) ⊎ (length (bufferOf c) % blockSize ≡ 0 → ⊥)
-GivenIf v pastEnd c cat d =
-    (l : Layout) × CatalogueOf v cat l × (f : File) × (findFile (idOf c) (l .files) ≡ found f)
+abbrev pub GivenIf : Refusal → Call → List ℕ → List ℕ → Type 0
+GivenIf catalogueLength c cat d = (v : Version) → OneOf v versions → length cat ≡ v .bytes → ⊥
+GivenIf formatDisk c cat d = ⊥
+GivenIf notSound c cat d = (l : Layout) → CatalogueOf cat l → ⊥
+GivenIf diskLength c cat d = (l : Layout) × CatalogueOf cat l × (length d ≡ blockSize * l .blocks → ⊥)
+GivenIf idZero c cat d = idOf c ≡ 0
+GivenIf idMissing c cat d = (l : Layout) × CatalogueOf cat l × NoFile (idOf c) l
+GivenIf idThere c cat d = (l : Layout) × CatalogueOf cat l × (NoFile (idOf c) l → ⊥)
+GivenIf bufferLength c cat d = (length (bufferOf c) ≡ 0) ⊎ (length (bufferOf c) % blockSize ≡ 0 → ⊥)
+GivenIf pastEnd c cat d =
+    (l : Layout) × CatalogueOf cat l × (f : File) × (findFile (idOf c) (l .files) ≡ found f)
     × (fileBlocks f < firstPageOf c + pageCount (bufferOf c))
-GivenIf v filesFull c cat d = (l : Layout) × CatalogueOf v cat l × (mostFiles ≤ length (l .files))
-GivenIf v noSpace c cat d = (l : Layout) × CatalogueOf v cat l × (freeBlocks l < pageCount (bufferOf c))
+GivenIf filesFull c cat d = (l : Layout) × CatalogueOf cat l × (mostFiles ≤ length (l .files))
+GivenIf noSpace c cat d = (l : Layout) × CatalogueOf cat l × (freeBlocks l < pageCount (bufferOf c))
 
 -- r is the lowest refusal of the table that applies
-pub record Lowest (v : Version) (c : Call) (cat d : List ℕ) (r : Refusal) : Type 0 where
+pub record Lowest (c : Call) (cat d : List ℕ) (r : Refusal) : Type 0 where
   pub by : By r c
-  pub given : GivenIf v r c cat d
-  pub lowest : (q : Refusal) → numberOf q < numberOf r → By q c → GivenIf v q c cat d → ⊥
+  pub given : GivenIf r c cat d
+  pub lowest : (q : Refusal) → numberOf q < numberOf r → By q c → GivenIf q c cat d → ⊥

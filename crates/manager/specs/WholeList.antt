@@ -1,11 +1,12 @@
 -- The claim about the whole list of calls: document 01, "The plain book". Definitions only.
--- `WholeList` is the one statement; `whole-list` of `proofs/WholeList.antt` proves it of version 1.
+-- `WholeList` is the one statement; `whole-list` of `proofs/WholeList.antt` proves it, of every version.
 use mathlib.Core.List.{List, [], _∷_, map}
 use mathlib.Core.Path.{_≡_}
 use Prim.Native.Nat.{_*_, _<_, _≤_, ℕ}
 use lib.ListN.{length}
 use Rattle.catalogue.specs.Encoding.{byteValues}
-use Rattle.catalogue.specs.Version.{Version, greatestBlocks}
+use Rattle.catalogue.specs.Version.{OneOf, greatestBlocks, versions}
+use Rattle.catalogue.specs.declared.Version.{Version}
 use Rattle.layout.specs.Carries.{carries}
 use Rattle.layout.specs.Layout.{File, Layout, OnePiecePerOne, allPieces, breaksOf, fileBlocks, findFile, found}
 use Rattle.layout.specs.Layout.{freeBlocks, holdsBlock}
@@ -18,7 +19,7 @@ use Rattle.manager.specs.Conditions.{Reply, answered, refused}
 use Rattle.manager.specs.Disk.{pagesOn}
 use Rattle.manager.specs.Outcomes.{formatOutcome, perform, removeOutcome}
 use Rattle.manager.specs.Table.{CatalogueOf}
-use Rattle.section.specs.Limits.{blockSize}
+use Rattle.section.specs.Limits.{blockSize, heightCount}
 
 -- ---- at each call
 
@@ -46,23 +47,23 @@ Alters free r = ⊥
 Alters check r = ⊥
 
 -- what is claimed of one call on a catalogue and a disk, beside the book
-pub record CallAgrees (v : Version) (c : Call) (cat d : List ℕ) (b : Book) : Type 0 where
-  pub reply : RepliesAgree (perform v c cat d .reply) (inBook c b .reply)
+pub record CallAgrees (c : Call) (cat d : List ℕ) (b : Book) : Type 0 where
+  pub reply : RepliesAgree (perform c cat d .reply) (inBook c b .reply)
   -- the whole output of a read
-  pub output : perform v c cat d .output ≡ inBook c b .output
-  pub catalogue-kept : (Alters c (perform v c cat d .reply) → ⊥) → perform v c cat d .catalogue ≡ cat
-  pub disk-kept : (Alters c (perform v c cat d .reply) → ⊥) → perform v c cat d .disk ≡ d
-  pub book-kept : (Alters c (perform v c cat d .reply) → ⊥) → inBook c b .book ≡ b
+  pub output : perform c cat d .output ≡ inBook c b .output
+  pub catalogue-kept : (Alters c (perform c cat d .reply) → ⊥) → perform c cat d .catalogue ≡ cat
+  pub disk-kept : (Alters c (perform c cat d .reply) → ⊥) → perform c cat d .disk ≡ d
+  pub book-kept : (Alters c (perform c cat d .reply) → ⊥) → inBook c b .book ≡ b
   -- a removal answers the number of block copies made at its steps, within the carries of f + n
-  pub copies : (i k : ℕ) (l : Layout) (f : File) → c ≡ remove i → perform v c cat d .reply ≡ answered k
-      → CatalogueOf v cat l
-      → findFile i (l .files) ≡ found f → k ≡ length (copiesOf (removal (v .heights) f l))
-  pub limit : (i k : ℕ) (x : Line) → c ≡ remove i → perform v c cat d .reply ≡ answered k
+  pub copies : (i k : ℕ) (l : Layout) (f : File) → c ≡ remove i → perform c cat d .reply ≡ answered k
+      → CatalogueOf cat l
+      → findFile i (l .files) ≡ found f → k ≡ length (copiesOf (removal heightCount f l))
+  pub limit : (i k : ℕ) (x : Line) → c ≡ remove i → perform c cat d .reply ≡ answered k
       → lineWith i (b .lines) ≡ line x
-      → k ≤ carries (v .heights) (bookFree b) (length (x .pages))
+      → k ≤ carries heightCount (bookFree b) (length (x .pages))
   -- breaks answers the breaks of the file's pieces in the catalogue
-  pub breaks-answer : (i k : ℕ) (l : Layout) (f : File) → c ≡ breaks i → perform v c cat d .reply ≡ answered k
-      → CatalogueOf v cat l
+  pub breaks-answer : (i k : ℕ) (l : Layout) (f : File) → c ≡ breaks i → perform c cat d .reply ≡ answered k
+      → CatalogueOf cat l
       → findFile i (l .files) ≡ found f → k ≡ breaksOf (f .pieces)
 
 -- ---- after the list
@@ -76,7 +77,8 @@ pub record Afterwards (v : Version) (cat d : List ℕ) (b : Book) : Type 0 where
   -- the catalogue is as many bytes as the version has, and sound
   pub catalogue-length : length cat ≡ v .bytes
   pub catalogue-bytes : Each (λ x. x < byteValues) cat
-  pub catalogue : CatalogueOf v cat layout
+  pub catalogue : CatalogueOf cat layout
+  pub version : catalogue .version ≡ v
   pub blocks : layout .blocks ≡ b .blocks
   pub disk-length : length d ≡ blockSize * b .blocks
   -- its ids are those of the lines, and the blocks of a file's pieces hold the line's pages in page order
@@ -93,26 +95,29 @@ pub record Afterwards (v : Version) (cat d : List ℕ) (b : Book) : Type 0 where
 abbrev pub Follows : Version → List ListedCall → List ℕ → List ℕ → Book → Type 0
 Follows v [] cat d b = Afterwards v cat d b
 Follows v (c ∷ cs) cat d b =
-    CallAgrees v (c .call) cat d b
-    × Follows v cs (perform v (c .call) cat d .catalogue) (perform v (c .call) cat d .disk)
+    CallAgrees (c .call) cat d b
+    × Follows v cs (perform (c .call) cat d .catalogue) (perform (c .call) cat d .disk)
     (inBook (c .call) b .book)
 
 -- ---- the claim
 
-pub record WholeList (v : Version) : Type 0 where
-  -- from buffers of the right lengths, whatever bytes they have, format answers C and leaves the disk
-  pub format-answers : (c : ℕ) (cat d : List ℕ) → 1 ≤ c → c ≤ greatestBlocks v → length cat ≡ v .bytes
-      → length d ≡ blockSize * c
-      → formatOutcome v cat d .reply ≡ answered c
-  pub format-disk : (c : ℕ) (cat d : List ℕ) → 1 ≤ c → c ≤ greatestBlocks v → length cat ≡ v .bytes
-      → length d ≡ blockSize * c
-      → formatOutcome v cat d .disk ≡ d
+-- buffers of the right lengths: a catalogue of version v, and a disk of c blocks, as many as the version allows
+pub record RightLengths (v : Version) (c : ℕ) (cat d : List ℕ) : Type 0 where
+  pub known : OneOf v versions
+  pub some : 1 ≤ c
+  pub most : c ≤ greatestBlocks v
+  pub catalogue : length cat ≡ v .bytes
+  pub disk : length d ≡ blockSize * c
+
+pub record WholeList : Type 0 where
+  -- in every version, from buffers of the right lengths, whatever bytes they have, format answers C and leaves the disk
+  pub format-answers : (v : Version) (c : ℕ) (cat d : List ℕ) → RightLengths v c cat d
+      → formatOutcome cat d .reply ≡ answered c
+  pub format-disk : (v : Version) (c : ℕ) (cat d : List ℕ) → RightLengths v c cat d → formatOutcome cat d .disk ≡ d
   -- and every list of calls from there follows a fresh book
-  pub list : (c : ℕ) (cat d : List ℕ) → 1 ≤ c → c ≤ greatestBlocks v → length cat ≡ v .bytes
-      → length d ≡ blockSize * c
-      → (calls : List ListedCall)
-      → Follows v calls (formatOutcome v cat d .catalogue) (formatOutcome v cat d .disk) (freshBook c)
+  pub list : (v : Version) (c : ℕ) (cat d : List ℕ) → RightLengths v c cat d → (calls : List ListedCall)
+      → Follows v calls (formatOutcome cat d .catalogue) (formatOutcome cat d .disk) (freshBook c)
   -- the limit on copies stands for a removal on every sound catalogue
-  pub limit : (cat d : List ℕ) (l : Layout) (i k : ℕ) (f : File) → CatalogueOf v cat l
+  pub limit : (cat d : List ℕ) (l : Layout) (i k : ℕ) (f : File) → CatalogueOf cat l
       → findFile i (l .files) ≡ found f
-      → removeOutcome v i cat d .reply ≡ answered k → k ≤ carries (v .heights) (freeBlocks l) (fileBlocks f)
+      → removeOutcome i cat d .reply ≡ answered k → k ≤ carries heightCount (freeBlocks l) (fileBlocks f)

@@ -5,6 +5,7 @@ use Prim.Native.Nat.{_<_, _≤_}
 use native.Mathlib.Omega.{arith}
 use lib.ListN.{length, take}
 use lib.Seq.{length-take-le}
+use Rattle.section.specs.Limits.{heightCount}
 use Rattle.section.specs.declared.Section.{Section}
 use Rattle.layout.proofs.Lists.{each-and, each-imp, each-left, each-right, each-unmap}
 use Rattle.layout.proofs.SoundSums.{each-files}
@@ -20,10 +21,10 @@ use Rattle.table.specs.declared.Entry.{Entry}
 use Rattle.table.specs.declared.Table.{Table}
 use Rattle.pieces.specs.Pieces.{Low, LowFiles}
 
-module _ (t : Table) (sized : Sized t) (sound : Sound 13 (layoutOf t)) where
+module _ (t : Table) (sized : Sized t) (sound : Sound heightCount (layoutOf t)) where
   all-low : Each Low (filePieces (filesOf t) ++ freeOf (t .free))
   unfolding layoutOf
-  all-low = each-imp (λ (s : Section) (h : s .height .value < 13). omega arith) (sound .heights)
+  all-low = each-imp (λ (s : Section) (h : s .height .value < heightCount). omega arith) (sound .heights)
 
   pub free-low : Each Low (freeOf (t .free))
   free-low = each-right (filePieces (filesOf t)) (freeOf (t .free)) all-low
@@ -32,7 +33,7 @@ module _ (t : Table) (sized : Sized t) (sound : Sound 13 (layoutOf t)) where
   unfolding freeOf layoutOf
   free-places e = omega (
     arith,
-    free-few 13 (layoutOf t) (omega arith) (sound .most-blocks) (sound .free-count),
+    free-few heightCount (layoutOf t) (omega arith) (sound .most-blocks) (sound .free-count),
     length-take-le (t .free .count) (t .free .items) (omega (arith, sized .free)),
   )
 

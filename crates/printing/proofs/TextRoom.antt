@@ -5,6 +5,9 @@ use mathlib.Core.Path.{_≡_}
 use Prim.Native.Nat.{_*_, _+_, _≤_, ℕ}
 use native.Mathlib.Omega.{arith}
 use lib.ListN.{length, length-append}
+use Rattle.section.specs.Limits.{mostFiles}
+use Rattle.free_pieces.specs.Free.{freePlaces}
+use Rattle.piece_lists.specs.Few.{piecePlaces}
 use Rattle.layout.proofs.Lists.{length-sort}
 use Rattle.layout.specs.Layout.{File, Layout, byFirst, fileBlocks, freeBlocks}
 use Rattle.layout.specs.Lists.{Each, done, more, sortBy}
@@ -49,8 +52,8 @@ unfolding fileLines
 file-size f =
     length-append (lineOf fileStart (f .id) fileMiddle (fileBlocks f)) (pairLines (sortBy byFirst (f .pieces)))
 
--- a file of at most 13 pieces
-pub file-length : (f : File) → length (f .pieces) ≤ 13 → length (fileLines f) ≤ 320
+-- a file of at most 21 pieces
+pub file-length : (f : File) → length (f .pieces) ≤ piecePlaces → length (fileLines f) ≤ 496
 unfolding fileLines
 file-length f h =
     omega (
@@ -61,8 +64,8 @@ file-length f h =
       length-sort byFirst (f .pieces),
     )
 
-files-length : {l : List File} → Each (λ (f : File). length (f .pieces) ≤ 13) l
-    → length (allFileLines l) ≤ 320 * length l
+files-length : {l : List File} → Each (λ (f : File). length (f .pieces) ≤ piecePlaces) l
+    → length (allFileLines l) ≤ 496 * length l
 unfolding allFileLines
 files-length done = omega arith
 files-length (more {a = f} {l = l} h e) =
@@ -79,8 +82,9 @@ first-length : (l : Layout) → length (firstLine l) ≤ 34
 unfolding firstLine
 first-length l = line-length blocksStart (l .blocks) freeMiddle (freeBlocks l)
 
-pub text-length : (l : Layout) → length (l .files) ≤ 64 → Each (λ (f : File). length (f .pieces) ≤ 13) (l .files)
-    → length (l .free) ≤ 26 → length (layoutText l) ≤ textRoom
+pub text-length : (l : Layout) → length (l .files) ≤ mostFiles → Each (λ (f : File). length (f .pieces) ≤ piecePlaces)
+    (l .files)
+    → length (l .free) ≤ freePlaces → length (layoutText l) ≤ textRoom
 text-length l n e m =
     omega (arith, text-size l, first-length l, files-length e, pairs-length (l .free))
 

@@ -3,6 +3,7 @@
 // Every function writes behind what stands in the buffer already, and answers the place behind what it wrote.
 ghost use Prim.Native.Nat.{_≤_};
 ghost use lib.ListN.{length};
+ghost use Rattle.section.specs.Limits.{heightCount};
 ghost use Rattle.layout.specs.Sound.{Sound};
 ghost use Rattle.manager.specs.Printing.{layoutText, refusalText};
 ghost use Rattle.table.specs.Tables.{Sized, layoutOf};
@@ -16,7 +17,7 @@ mod pairs;
 // Writes the text of the layout that the table stands for.
 pub fn print_table(t: Table, out: &mut [u8]) -> usize
     requires places { ⌜ Sized t ⌝ }
-    requires sound { ⌜ Sound 13 (layoutOf t) ⌝ }
+    requires sound { ⌜ Sound heightCount (layoutOf t) ⌝ }
     requires room { ⌜ textRoom ≤ length (now out) ⌝ }
     ensures { λ r. ⌜ Prints (layoutText (layoutOf t)) (now (out .exit)) r ⌝ }
 {

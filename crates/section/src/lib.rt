@@ -4,9 +4,11 @@
 // `is_on_disk` takes any first block and any number of blocks. Every other function asks for what a section of a disk
 // gives: a height up to the greatest, which `of_length` answers, and a first block below 2^31, by `is_on_disk`;
 // `shares_block` asks for two aligned sections and their masks.
+mod limits;
+
+pub use limits::limits_agree;
 ghost use mathlib.Core.Path.{_≡_};
 ghost use Prim.Native.Nat.{_-_};
-ghost use Rattle.section.specs.Limits.{blockSize, greatestDisk, catalogueSize, greatestHeight, mostFiles};
 ghost use Rattle.section.specs.Heights.{NoHigher, IsLength, heightOf};
 ghost use Rattle.section.specs.Sections.{Addressable, endOf, buddyOf, parentOf, isAligned, isOnDisk, hasBuddy};
 ghost use Rattle.section.specs.Sections.{IsMask, lengthOf, sharesBlock, isInside, movedInto};
@@ -23,9 +25,6 @@ pub enum Measured {
 }
 
 impl Height {
-    // The greatest height.
-    pub const GREATEST: u32 = 12;
-
     // The number of blocks.
     pub fn length(self) -> u32
         requires { ⌜ NoHigher self ⌝ }
@@ -52,6 +51,14 @@ impl Height {
             1024 => Measured::Height(Height { value: 10 }),
             2048 => Measured::Height(Height { value: 11 }),
             4096 => Measured::Height(Height { value: 12 }),
+            8192 => Measured::Height(Height { value: 13 }),
+            16384 => Measured::Height(Height { value: 14 }),
+            32768 => Measured::Height(Height { value: 15 }),
+            65536 => Measured::Height(Height { value: 16 }),
+            131072 => Measured::Height(Height { value: 17 }),
+            262144 => Measured::Height(Height { value: 18 }),
+            524288 => Measured::Height(Height { value: 19 }),
+            1048576 => Measured::Height(Height { value: 20 }),
             _ => Measured::NoLength,
         }
     }
@@ -64,15 +71,6 @@ pub struct Section {
 }
 
 impl Section {
-    // The bytes of a block.
-    pub const BLOCK_SIZE: usize = 512;
-    // The greatest number of blocks of a disk, C.
-    pub const GREATEST_DISK: u32 = 4096;
-    // The bytes of a catalogue.
-    pub const CATALOGUE_SIZE: usize = 4096;
-    // The most files of a catalogue.
-    pub const MOST_FILES: usize = 64;
-
     // The bits below that of the length.
     pub fn mask(self) -> u32
         requires { ⌜ NoHigher (self .height) ⌝ }
@@ -187,12 +185,3 @@ impl Section {
         }
     }
 }
-
-// The constants are those of the definitions.
-pub fn limits_agree()
-    ensures block_size { λ _. do ⌜ (← ⟦Section::BLOCK_SIZE⟧ .entry) ≡ blockSize ⌝ }
-    ensures greatest_disk { λ _. do ⌜ (← ⟦Section::GREATEST_DISK⟧ .entry) ≡ greatestDisk ⌝ }
-    ensures catalogue_size { λ _. do ⌜ (← ⟦Section::CATALOGUE_SIZE⟧ .entry) ≡ catalogueSize ⌝ }
-    ensures most_files { λ _. do ⌜ (← ⟦Section::MOST_FILES⟧ .entry) ≡ mostFiles ⌝ }
-    ensures greatest_height { λ _. do ⌜ (← ⟦Height::GREATEST⟧ .entry) ≡ greatestHeight ⌝ }
-{}

@@ -85,7 +85,22 @@ fn print_sections() {
     print_section(4294967295, 4294967295, 4294967295);
 }
 
+// Lengths from the small catalogue's greatest to the large one's, numbers next to them, and the end of a large disk.
+fn print_large_sections() {
+    print_section(0, 4096, 8192);
+    print_section(0, 8192, 8192);
+    print_section(524288, 524288, 1048576);
+    print_section(524288, 524288, 1048575);
+    print_section(0, 1048576, 1048576);
+    print_section(0, 1048576, 1048575);
+    print_section(0, 1048577, 1048576);
+    print_section(0, 2097152, 1048576);
+    print_section(1048575, 1, 1048576);
+    print_section(1048574, 1, 1048575);
+}
+
 fn main() {
     check_lower_buddy();
     print_sections();
+    print_large_sections();
 }

@@ -18,7 +18,7 @@ use Rattle.layout.specs.Removing.{Copy, Merge, copiesOf, due, layoutAfter, merg
 use Rattle.layout.specs.Removing.{settled}
 use Rattle.manager.specs.Disk.{block, runCopies, storeBlock}
 use Rattle.section.proofs.Buddies.{upper}
-use Rattle.section.specs.Limits.{blockSize, greatestDisk}
+use Rattle.section.specs.Limits.{blockSize, greatestDisk, heightCount}
 use Rattle.table.proofs.NextPair.{merge-due, merge-settled}
 use Rattle.table.proofs.ReadyPairs.{Fits, due-fits, merge-ready}
 use Rattle.table.proofs.TableSteps.{table-merged-whole}
@@ -48,17 +48,21 @@ unfolding layoutAfter
 last-one w m = refl
 
 -- one more merge
-merge-more : (n : ℕ) (w : Layout) (m : Merge) → nextMerge 13 0 w ≡ due m
-    → mergeAll (suc n) 13 w ≡ m ∷ mergeAll n 13 (m .after)
+merge-more : (n : ℕ) (w : Layout) (m : Merge) → nextMerge heightCount 0 w ≡ due m
+    → mergeAll (suc n) heightCount w ≡ m ∷ mergeAll n heightCount (m .after)
 unfolding mergeAll
-merge-more n w m e = ap (λ x. elim x as (λ _. List Merge) [ due m ↦ m ∷ mergeAll n 13 (m .after) | settled ↦ [] ]) e
+merge-more n w m e = ap (λ x. elim x as (λ _. List Merge) [
+  | due m ↦ m ∷ mergeAll n heightCount
+      (m .after)
+  | settled ↦ []
+]) e
 
 -- no more
-merge-none : (n : ℕ) (w : Layout) → nextMerge 13 0 w ≡ settled → mergeAll n 13 w ≡ []
+merge-none : (n : ℕ) (w : Layout) → nextMerge heightCount 0 w ≡ settled → mergeAll n heightCount w ≡ []
 unfolding mergeAll
 merge-none zero w e = refl
 merge-none (suc n) w e =
-    ap (λ x. elim x as (λ _. List Merge) [ due m ↦ m ∷ mergeAll n 13 (m .after) | settled ↦ [] ]) e
+    ap (λ x. elim x as (λ _. List Merge) [ due m ↦ m ∷ mergeAll n heightCount (m .after) | settled ↦ [] ]) e
 
 -- t and the disk d after some of the merges of t₀, with `copied` blocks copied
 pub record Settling (t₀ : Table) (d₀ : List ℕ) (t : Table) (d : List ℕ) (copied : ℕ) : Type 0 where
@@ -93,7 +97,7 @@ settling-start t d s = record {
 }
 
 module _ (t₀ : Table) (d₀ : List ℕ) (t : Table) (d : List ℕ) (copied : ℕ) (g : Settling t₀ d₀ t d copied) (p : Pair)
-    (ps : Pairs (t .free .count) (lowestPair 13 0 (freeOf (t .free))) p) (f : p .found ≡ true) where
+    (ps : Pairs (t .free .count) (lowestPair heightCount 0 (freeOf (t .free))) p) (f : p .found ≡ true) where
   fits : Fits (t .blocks) (layoutOf t) (p .lower) (p .upper) (freeOf (p .others))
   fits = due-fits (t .blocks) (g .small) t p (g .whole) (g .sized) ps f
 
@@ -105,7 +109,7 @@ module _ (t₀ : Table) (d₀ : List ℕ) (t : Table) (d : List ℕ) (copied : �
   settling-copies =
       let same = ap (λ n. 2 ^ n) (fits .same) in
       record {
-        height = omega (arith, height-lt (t .blocks) 13 (omega (arith, g .small)) (p .lower) (fits .lower));
+        height = omega (arith, height-lt (t .blocks) heightCount (omega (arith, g .small)) (p .lower) (fits .lower));
         buddy = omega (arith, g .long, mul-le-mul-left blockSize (fits .buddy .within));
         upper = omega (arith, g .long, mul-le-mul-left blockSize (fits .upper .within), same);
         disk = omega (arith, g .long, mul-le-mul-left blockSize (g .small));
@@ -161,9 +165,9 @@ module _ (t₀ : Table) (d₀ : List ℕ) (t : Table) (d : List ℕ) (copied : �
 
       rest : (now ∷ []) ++ mergesOf r ≡ mergesOf t
       rest =
-          sym (ap (λ n. mergeAll n 13 (layoutOf t)) fewer-left
+          sym (ap (λ n. mergeAll n heightCount (layoutOf t)) fewer-left
           ∙ (merge-more (r .free .count) (layoutOf t) now (merge-due (t .free .count) t p ps f)
-          ∙ ap (λ w. now ∷ mergeAll (r .free .count) 13 w) (sym (m .layout))))
+          ∙ ap (λ w. now ∷ mergeAll (r .free .count) heightCount w) (sym (m .layout))))
 
       last : layoutAfter (layoutOf t) (now ∷ []) ≡ now .after
       last = last-one (layoutOf t) now
@@ -174,7 +178,7 @@ module _ (t₀ : Table) (d₀ : List ℕ) (t : Table) (d : List ℕ) (copied : �
 -- no height has two any more
 pub settling-end : (t₀ : Table) (d₀ : List ℕ) (t : Table) (d : List ℕ) (copied : ℕ) → Settling t₀ d₀ t d copied
     → (p : Pair)
-    → Pairs (t .free .count) (lowestPair 13 0 (freeOf (t .free))) p → p .found ≡ false
+    → Pairs (t .free .count) (lowestPair heightCount 0 (freeOf (t .free))) p → p .found ≡ false
     → Settles t₀ d₀ d (record { table = t; copied = copied })
 settling-end t₀ d₀ t d copied g p ps f =
     let none = merge-none (t .free .count) (layoutOf t) (merge-settled (t .free .count) t p ps f) in

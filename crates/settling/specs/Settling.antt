@@ -1,9 +1,9 @@
 -- What merging to the end asks for and promises. Definitions only.
 use mathlib.Core.Path.{_≡_}
 use mathlib.Core.List.{List}
-use Prim.Native.Nat.{ℕ, suc, _*_, _≤_}
+use Prim.Native.Nat.{ℕ, _*_, _≤_}
 use lib.ListN.{length}
-use Rattle.section.specs.Limits.{blockSize, greatestDisk, greatestHeight}
+use Rattle.section.specs.Limits.{blockSize, greatestDisk, heightCount}
 use Rattle.layout.specs.Removing.{Merge, copiesOf, layoutAfter, mergeAll}
 use Rattle.layout.proofs.MergeKeeps.{Whole}
 use Rattle.manager.specs.Disk.{runCopies}
@@ -14,7 +14,7 @@ use Rattle.settling.specs.declared.Settled.{Settled}
 
 -- the merges of a table's layout, to the end
 abbrev pub mergesOf : Table → List Merge
-mergesOf t = mergeAll (t .free .count) (suc greatestHeight) (layoutOf t)
+mergesOf t = mergeAll (t .free .count) heightCount (layoutOf t)
 
 -- a table to merge, and a disk of n bytes
 pub record CanSettle (t : Table) (n : ℕ) : Type 0 where

@@ -10,12 +10,11 @@ use lib.ListN.{length}
 use borrow.Author.Tests.{eq-eqb, le-leb, leb-true}
 use Rattle.catalogue.proofs.Tests.{and-intro}
 use Rattle.catalogue.specs.Reading.{every, isSound, soundFile, soundFree, soundPiece}
-use Rattle.catalogue.specs.Version.{version1}
 use Rattle.layout.proofs.Soundness.{free-few}
 use Rattle.layout.specs.Layout.{Layout, allPieces, blockCount, fileBlocks, freeBlocks}
 use Rattle.layout.specs.Lists.{sumOf}
 use Rattle.section.proofs.Booleans.{and-true}
-use Rattle.section.specs.Limits.{greatestDisk, mostFiles}
+use Rattle.section.specs.Limits.{greatestDisk, mostFiles, heightCount}
 use Rattle.section.specs.declared.Section.{Section}
 use Rattle.soundness.proofs.Ordered.{distinct, order-both, order-distinct, order-rises, rising}
 use Rattle.soundness.proofs.Points.{false-true, is-false}
@@ -30,7 +29,7 @@ use Rattle.table.specs.declared.Table.{Table}
 -- ---- the test of soundness, in its parts
 
 abbrev onDisk : ℕ → List Section → Bool
-onDisk c l = every (soundPiece (version1 .heights) c) l
+onDisk c l = every (soundPiece heightCount c) l
 
 module _ (l : Layout) where
   abbrev pages : ℕ
@@ -41,11 +40,11 @@ module _ (l : Layout) where
       (sumsAgree (l .blocks) pages (blockCount (l .free)) ≡ true) × (idsRise (l .files) ≡ true)
       × (inOrder (l .free) ≡ true) × (onDisk (l .blocks) (allPieces l) ≡ true) × (noneShared (allPieces l) ≡ true)
 
-  passed-of : isSound 13 l ≡ true → Passed
+  passed-of : isSound heightCount l ≡ true → Passed
   unfolding isSound sumsAgree
   passed-of e =
       let a1 = and-true (leb 1 (l .blocks)) _ e in
-      let a2 = and-true (leb (l .blocks) 4096) _ (a1 .1) in
+      let a2 = and-true (leb (l .blocks) greatestDisk) _ (a1 .1) in
       let a3 = and-true (leb (length (l .files)) mostFiles) _ (a2 .1) in
       let a4 = and-true (idsRise (l .files)) _ (a3 .1) in
       let a5 = and-true (every soundFile (l .files)) _ (a4 .1) in
@@ -65,11 +64,11 @@ module _ (l : Layout) where
       )
 
   of-passed : length (l .files) ≤ mostFiles → every soundFile (l .files) ≡ true
-      → length (l .free) ≡ ones (freeBlocks l) → Passed → isSound 13 l ≡ true
+      → length (l .free) ≡ ones (freeBlocks l) → Passed → isSound heightCount l ≡ true
   unfolding isSound sumsAgree
   of-passed few files count p =
       let a1 = and-true (leb 1 (l .blocks)) _ (p .0) in
-      let a2 = and-true (leb (l .blocks) 4096) _ (a1 .1) in
+      let a2 = and-true (leb (l .blocks) greatestDisk) _ (a1 .1) in
       let a3 = and-true (leb pages (l .blocks)) (eqb (blockCount (l .free)) (freeBlocks l)) (a2 .1) in
       and-intro (a1 .0)
       (and-intro (a2 .0)
@@ -90,13 +89,13 @@ module _ (t : Table) (sum free : ℕ) (x : Exact t) (y : Counted t sum free) whe
       ≡ sumsAgree (t .blocks) (sumOf fileBlocks (filesOf t)) (blockCount (freeOf (t .free)))
   agree = ap₂ (sumsAgree (t .blocks)) (y .pages-sum) (y .free-sum)
 
-  passed : isSound 13 (layoutOf t) ≡ true
+  passed : isSound heightCount (layoutOf t) ≡ true
       → (sumsAgree (t .blocks) sum free ≡ true) × (idsRise (filesOf t) ≡ true) × (inOrder (freeOf (t .free)) ≡ true)
       × (onDisk (t .blocks) (allPieces (layoutOf t)) ≡ true) × (noneShared (allPieces (layoutOf t)) ≡ true)
   unfolding layoutOf
   passed e = let p = passed-of (layoutOf t) e in (agree ∙ p .0, p .1, p .2, p .3, p .4)
 
-  pub sums-unsound : sumsAgree (t .blocks) sum free ≡ false → isSound 13 (layoutOf t) ≡ false
+  pub sums-unsound : sumsAgree (t .blocks) sum free ≡ false → isSound heightCount (layoutOf t) ≡ false
   sums-unsound e = is-false _ (λ u. false-true (sym e ∙ passed u .0))
 
   -- once the sums agree, the free pieces are few
@@ -104,28 +103,33 @@ module _ (t : Table) (sum free : ℕ) (x : Exact t) (y : Counted t sum free) whe
   unfolding layoutOf sumsAgree
   sums-free-few e =
       let a = and-true (leb (t .blocks) greatestDisk) _ (and-true (leb 1 (t .blocks)) _ e .1) .0 in
-      omega (arith, x .free, free-few 13 (layoutOf t) (omega arith) (leb-true (t .blocks) greatestDisk a) (y .free-count))
+      omega (
+        arith,
+        x .free,
+        free-few heightCount (layoutOf t) (omega arith) (leb-true (t .blocks) greatestDisk a)
+            (y .free-count),
+      )
 
-  pub ids-unsound : idsRise (filesOf t) ≡ false → isSound 13 (layoutOf t) ≡ false
+  pub ids-unsound : idsRise (filesOf t) ≡ false → isSound heightCount (layoutOf t) ≡ false
   ids-unsound e = is-false _ (λ u. false-true (sym e ∙ passed u .1))
 
-  pub free-unsound : inOrder (freeOf (t .free)) ≡ false → isSound 13 (layoutOf t) ≡ false
+  pub free-unsound : inOrder (freeOf (t .free)) ≡ false → isSound heightCount (layoutOf t) ≡ false
   free-unsound e = is-false _ (λ u. false-true (sym e ∙ passed u .2))
 
-  pub disk-unsound : onDisk (t .blocks) (allPieces (layoutOf t)) ≡ false → isSound 13 (layoutOf t) ≡ false
+  pub disk-unsound : onDisk (t .blocks) (allPieces (layoutOf t)) ≡ false → isSound heightCount (layoutOf t) ≡ false
   disk-unsound e = is-false _ (λ u. false-true (sym e ∙ passed u .3))
 
   pub shared-left : sumsAgree (t .blocks) sum free ≡ true → idsRise (filesOf t) ≡ true
       → inOrder (freeOf (t .free)) ≡ true
       → onDisk (t .blocks) (allPieces (layoutOf t)) ≡ true
-      → noneShared (allPieces (layoutOf t)) ≡ isSound 13 (layoutOf t)
+      → noneShared (allPieces (layoutOf t)) ≡ isSound heightCount (layoutOf t)
   unfolding layoutOf
   shared-left a b c d = go (noneShared (allPieces (layoutOf t))) refl
     where
       few : length (filesOf t) ≤ mostFiles
       few = omega (arith, x .files, x .sized .files)
 
-      go : (u : Bool) → noneShared (allPieces (layoutOf t)) ≡ u → u ≡ isSound 13 (layoutOf t)
+      go : (u : Bool) → noneShared (allPieces (layoutOf t)) ≡ u → u ≡ isSound heightCount (layoutOf t)
       go true e =
           sym (of-passed (layoutOf t) few (y .sound-files) (y .free-count) (sym agree ∙ a, b, c, d, e))
       go false e = sym (is-false _ (λ v. false-true (sym e ∙ passed v .4)))

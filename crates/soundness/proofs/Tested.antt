@@ -1,4 +1,5 @@
 -- What each test on a table says. Assumes nothing.
+use Rattle.section.specs.Limits.{greatestHeight, heightCount, greatestDisk}
 use mathlib.Core.Bool.{Bool, _&&_, false, true}
 use mathlib.Core.List.{List, [], _∷_, map}
 use mathlib.Core.Path.{_∙_, _≡_, ap, ap₂, refl, subst, sym}
@@ -10,7 +11,6 @@ use lib.ListN.{getD, length, take}
 use borrow.Author.Count.{below-more}
 use borrow.Author.Tests.{le-leb, le-ltb, lt-leb, lt-ltb, ltb-true}
 use Rattle.catalogue.specs.Reading.{every, pairwise, soundPiece}
-use Rattle.catalogue.specs.Version.{version1}
 use Rattle.soundness.proofs.Joined.{blankEntry, filesTo}
 use Rattle.soundness.proofs.Points.{pair-fails, pairs-hold}
 use Rattle.soundness.specs.Checking.{idsRise, sumsAgree}
@@ -29,17 +29,17 @@ module _ (c pages free : ℕ) where
   unfolding sumsAgree
   no-disk h = simp (lt-leb 1 c h)
 
-  pub large-disk : 4096 < c → sumsAgree c pages free ≡ false
+  pub large-disk : greatestDisk < c → sumsAgree c pages free ≡ false
   unfolding sumsAgree
-  large-disk h = simp (le-leb 1 c (omega arith), lt-leb c 4096 h)
+  large-disk h = simp (le-leb 1 c (omega arith), lt-leb c greatestDisk h)
 
-  pub many-pages : 1 ≤ c → c ≤ 4096 → c < pages → sumsAgree c pages free ≡ false
+  pub many-pages : 1 ≤ c → c ≤ greatestDisk → c < pages → sumsAgree c pages free ≡ false
   unfolding sumsAgree
-  many-pages p q h = simp (le-leb 1 c p, le-leb c 4096 q, lt-leb pages c h)
+  many-pages p q h = simp (le-leb 1 c p, le-leb c greatestDisk q, lt-leb pages c h)
 
-  pub sums-left : 1 ≤ c → c ≤ 4096 → pages ≤ c → sumsAgree c pages free ≡ eqb free (c - pages)
+  pub sums-left : 1 ≤ c → c ≤ greatestDisk → pages ≤ c → sumsAgree c pages free ≡ eqb free (c - pages)
   unfolding sumsAgree
-  sums-left p q h = simp (le-leb 1 c p, le-leb c 4096 q, le-leb pages c h)
+  sums-left p q h = simp (le-leb 1 c p, le-leb c greatestDisk q, le-leb pages c h)
 
 -- ---- ids
 
@@ -95,17 +95,21 @@ module _ (l : List Entry) (m : ℕ) (h : m ≤ length l) where
 
 -- ---- pieces of the disk
 
-pub high-piece : (c : ℕ) (s : Section) → 12 < s .height .value → soundPiece (version1 .heights) c s ≡ false
-high-piece c s h = false-and (isOnDisk c s) (le-ltb (s .height .value) 13 (omega arith))
+pub high-piece : (c : ℕ) (s : Section) → greatestHeight < s .height .value → soundPiece heightCount c s ≡ false
+high-piece c s h = false-and (isOnDisk c s) (le-ltb (s .height .value) heightCount (omega arith))
 
-pub low-piece : (c : ℕ) (s : Section) → s .height .value ≤ 12 → soundPiece (version1 .heights) c s ≡ isOnDisk c s
-low-piece c s h = and-true-right (isOnDisk c s) (lt-ltb (s .height .value) 13 (omega arith))
+pub low-piece : (c : ℕ) (s : Section) → s .height .value ≤ greatestHeight → soundPiece heightCount c s ≡ isOnDisk c s
+low-piece c s h = and-true-right (isOnDisk c s) (lt-ltb (s .height .value) heightCount (omega arith))
 
-pub piece-aligned : (c : ℕ) (s : Section) → soundPiece (version1 .heights) c s ≡ true → isAligned s ≡ true
+pub piece-aligned : (c : ℕ) (s : Section) → soundPiece heightCount c s ≡ true → isAligned s ≡ true
 unfolding isOnDisk
 piece-aligned c s e =
-    and-true (isAligned s) (leb (endOf s) c) (and-true (isOnDisk c s) (ltb (s .height .value) 13) e .0) .0
+    and-true (isAligned s) (leb (endOf s) c) (and-true (isOnDisk c s) (ltb (s .height .value) heightCount) e .0) .0
 
-pub piece-low : (c : ℕ) (s : Section) → soundPiece (version1 .heights) c s ≡ true → NoHigher (s .height)
+pub piece-low : (c : ℕ) (s : Section) → soundPiece heightCount c s ≡ true → NoHigher (s .height)
 piece-low c s e =
-    omega (arith, ltb-true (s .height .value) 13 (and-true (isOnDisk c s) (ltb (s .height .value) 13) e .1))
+    omega (
+      arith,
+      ltb-true (s .height .value) heightCount (and-true (isOnDisk c s)
+          (ltb (s .height .value) heightCount) e .1),
+    )

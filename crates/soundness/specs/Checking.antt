@@ -2,21 +2,22 @@
 use mathlib.Core.Bool.{Bool, _&&_, not, true}
 use mathlib.Core.List.{List}
 use mathlib.Core.Path.{_≡_}
-use Prim.Native.Nat.{ℕ, _-_, _<_}
+use Prim.Native.Nat.{ℕ, _+_, _-_, _*_, _<_}
 use lib.Dec.{leb, ltb, eqb}
 use lib.ListN.{getD, length, take}
 use Rattle.section.specs.declared.Section.{Section}
-use Rattle.section.specs.Limits.{greatestDisk}
+use Rattle.section.specs.Limits.{greatestDisk, heightCount, mostFiles}
 use Rattle.section.specs.Sections.{IsMask, section, sharesBlock}
 use Rattle.layout.specs.Layout.{File}
+use Rattle.piece_lists.specs.Few.{piecePlaces}
+use Rattle.free_pieces.specs.Free.{freePlaces}
 use Rattle.catalogue.specs.Reading.{every, pairwise, soundPiece}
-use Rattle.catalogue.specs.Version.{version1}
 use Rattle.soundness.specs.declared.Gathered.{Gathered}
 use Rattle.soundness.specs.declared.Masked.{Masked}
 
--- the places for the pieces of 64 files and the free ones
+-- the places for the pieces of all files and the free ones
 abbrev pub gatheredPlaces : ℕ
-gatheredPlaces = 858
+gatheredPlaces = mostFiles * piecePlaces + freePlaces
 
 -- the pieces that were gathered
 unfoldable pub piecesOf : Gathered → List Section
@@ -29,7 +30,7 @@ Masks g l =
 
 -- whether all pieces are sections of a disk of b blocks, and their masks if they are
 pub record MasksOf (b : ℕ) (g : Gathered) (r : Masked) : Type 0 where
-  pub disk : r .ok ≡ every (soundPiece (version1 .heights) b) (piecesOf g)
+  pub disk : r .ok ≡ every (soundPiece heightCount b) (piecesOf g)
   pub masks : r .ok ≡ true → Masks g (r .masks)
 
 -- C and the blocks of the files and of the free pieces agree

@@ -3,13 +3,14 @@ use crate::Gathered;
 use crate::Masked;
 use crate::gather::gathered;
 use crate::order::in_order;
+use section::Height;
 use section::Section;
 use table::Table;
+ghost use Rattle.section.specs.Limits.{heightCount};
 ghost use mathlib.Core.Path.{_≡_};
 ghost use mathlib.Core.Bool.{not};
 ghost use Prim.Native.Nat.{_≤_};
 ghost use Rattle.table.specs.Tables.{filesOf, layoutOf};
-ghost use Rattle.catalogue.specs.Version.{version1};
 ghost use Rattle.catalogue.specs.Reading.{isSound, soundPiece};
 ghost use Rattle.soundness.specs.Checking.{Masks, MasksOf, gatheredPlaces, piecesOf};
 ghost use Rattle.soundness.specs.Checking.{idsRise, noneShared, sumsAgree};
@@ -22,7 +23,7 @@ fn sums_agree(blocks: u32, sum: u32, free: u32) -> bool
     if blocks < 1 {
         return false;
     }
-    if 4096 < blocks {
+    if Section::GREATEST_DISK < blocks {
         return false;
     }
     if blocks < sum {
@@ -51,10 +52,10 @@ fn ids_rise(table: Table) -> bool
 
 // Whether a piece is a section of the disk.
 fn is_piece(section: Section, blocks: u32) -> bool
-    ensures { λ r. ⌜ r ≡ soundPiece (version1 .heights) blocks section ⌝ }
+    ensures { λ r. ⌜ r ≡ soundPiece heightCount blocks section ⌝ }
 {
     let h = section.height;
-    if 12 < h.value {
+    if Height::GREATEST < h.value {
         return false;
     }
     section.is_on_disk(blocks)
@@ -66,7 +67,7 @@ fn masks_of(list: Gathered, blocks: u32) -> Masked
     ensures { λ r. ⌜ MasksOf blocks list r ⌝ }
 {
     let count = list.count;
-    let mut masks: [u32; 858] = [0; 858];
+    let mut masks: [u32; Gathered::PLACES] = [0; Gathered::PLACES];
     let mut i: usize = 0;
     while i < count {
         let section = list.items[i];
@@ -80,7 +81,7 @@ fn masks_of(list: Gathered, blocks: u32) -> Masked
 }
 
 // Whether some two pieces share a block.
-fn any_shared(list: Gathered, masks: [u32; 858]) -> bool
+fn any_shared(list: Gathered, masks: [u32; Gathered::PLACES]) -> bool
     requires { ⌜ (list .count ≤ gatheredPlaces) × Masks list masks ⌝ }
     ensures { λ r. ⌜ r ≡ not (noneShared (piecesOf list)) ⌝ }
 {
@@ -109,7 +110,7 @@ fn any_shared(list: Gathered, masks: [u32; 858]) -> bool
 // the sums agree, the free pieces are few.
 pub fn is_sound(table: Table, sum: u32, free: u32) -> bool
     requires { ⌜ Exact table × Counted table sum free ⌝ }
-    ensures { λ r. ⌜ r ≡ isSound (version1 .heights) (layoutOf table) ⌝ }
+    ensures { λ r. ⌜ r ≡ isSound heightCount (layoutOf table) ⌝ }
 {
     if !sums_agree(table.blocks, sum, free) {
         return false;

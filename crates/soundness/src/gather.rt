@@ -1,5 +1,6 @@
 // All pieces of a table in one list.
 use crate::Gathered;
+use piece_lists::Pieces;
 use section::Height;
 use section::Section;
 use table::Entry;
@@ -13,8 +14,8 @@ ghost use Rattle.table.specs.Tables.{layoutOf};
 ghost use Rattle.soundness.specs.Checking.{gatheredPlaces, piecesOf};
 ghost use Rattle.soundness.specs.Counts.{Exact};
 
-// The places of a file's pieces. That there are 13 is known of a parameter, and not of an element of an array.
-fn places_of(entry: Entry) -> [Section; 13]
+// The places of a file's pieces. How many there are is known of a parameter, and not of an element of an array.
+fn places_of(entry: Entry) -> [Section; Pieces::PLACES]
     ensures { λ r. ⌜ (r ≡ entry .items) × (length r ≡ piecePlaces) ⌝ }
 {
     entry.items
@@ -30,7 +31,7 @@ pub fn gathered(table: Table) -> Gathered
         first: 0,
         height: Height { value: 0 },
     };
-    let mut items = [none; 858];
+    let mut items = [none; Gathered::PLACES];
     let mut at: usize = 0;
     let count = table.count;
     let mut i: usize = 0;

@@ -3,6 +3,7 @@ use mathlib.Core.Path.{_∙_, _≡_, ap, ap₂, subst, sym}
 use Prim.Native.Nat.{_+_, _<_, _≤_, ℕ}
 use native.Mathlib.Omega.{arith}
 use lib.ListN.{getD, length, set}
+use Rattle.section.specs.Limits.{mostFiles}
 use Rattle.section.specs.Sections.{Addressable, buddyOf}
 use Rattle.section.specs.declared.Section.{Section}
 use Rattle.piece_lists.proofs.EachItem.{each-get, each-taken}
@@ -25,14 +26,14 @@ pub record FilesMoving (p : Pair) (b u : Section) (m : ℕ) (t₀ t : Table) (i 
   pub from : b ≡ buddyOf (p .lower)
   pub to : u ≡ p .upper
   pub all : m ≡ t₀ .count
-  pub long : length (t₀ .files) ≡ 64
+  pub long : length (t₀ .files) ≡ mostFiles
   pub most : i ≤ m
   pub files : t .files ≡ mapFirst (movedEntry b u) i (t₀ .files)
   pub count : t .count ≡ t₀ .count
   pub blocks : t .blocks ≡ t₀ .blocks
 
 pub moving-start : (p : Pair) (b u : Section) (t : Table) → Ready t p → b ≡ buddyOf (p .lower) → u ≡ p .upper
-    → length (t .files) ≡ 64 → FilesMoving p b u (t .count) t t 0
+    → length (t .files) ≡ mostFiles → FilesMoving p b u (t .count) t t 0
 moving-start p b u t a eb eu l = record {
   ready = a;
   from = eb;
@@ -107,5 +108,5 @@ module _ (p : Pair) (b u : Section) (m : ℕ) (t₀ t : Table) (i : ℕ) (g : Fi
       whole : mapFirst (movedEntry b u) i (t₀ .files) ≡ mapFirst (movedEntry b (p .upper)) (t₀ .count) (t₀ .files)
       whole = ap₂ (λ (k : ℕ) (x : Section). mapFirst (movedEntry b x) k (t₀ .files)) end (g .to)
 
-  pub moving-long : length (t .files) ≡ 64
+  pub moving-long : length (t .files) ≡ mostFiles
   moving-long = ap length (g .files) ∙ length-mapFirst (movedEntry b u) i (t₀ .files) ∙ g .long

@@ -4,6 +4,7 @@ use mathlib.Core.List.{List}
 use mathlib.Core.Path.{_∙_, _≡_, ap, refl, subst, sym}
 use Prim.Native.Nat.{_+_, _<_, _≤_, suc, zero, ℕ}
 use native.Mathlib.Omega.{arith}
+use Rattle.section.specs.Limits.{heightCount}
 use Rattle.layout.proofs.MergePairs.{Mergeable, MergeableOf, mergePair-is}
 use Rattle.layout.proofs.Taking.{Rising}
 use Rattle.layout.specs.Layout.{Layout}
@@ -31,24 +32,24 @@ next-is (suc k) h w = go (mergePair h (w .free)) (next-is k (suc h) w)
     go (pair l u others) e = refl
     go fewer e = e
 
-module _ (n : ℕ) (t : Table) (p : Pair) (ps : Pairs n (lowestPair 13 0 (freeOf (t .free))) p) where
+module _ (n : ℕ) (t : Table) (p : Pair) (ps : Pairs n (lowestPair heightCount 0 (freeOf (t .free))) p) where
   pub pair-found : p .found ≡ true
-      → lowestPair 13 0 (freeOf (t .free)) ≡ pair (p .lower) (p .upper) (freeOf (p .others))
+      → lowestPair heightCount 0 (freeOf (t .free)) ≡ pair (p .lower) (p .upper) (freeOf (p .others))
   unfolding pairOf
   pair-found f = sym (ps .meaning) ∙ rw (f, pairOf)
 
   pub merge-due : p .found ≡ true
-      → nextMerge 13 0 (layoutOf t) ≡ due (merge (p .lower) (p .upper) (freeOf (p .others)) (layoutOf t))
+      → nextMerge heightCount 0 (layoutOf t) ≡ due (merge (p .lower) (p .upper) (freeOf (p .others)) (layoutOf t))
   unfolding layoutOf
-  merge-due f = next-is 13 0 (layoutOf t) ∙ ap (nextOf (layoutOf t)) (pair-found f)
+  merge-due f = next-is heightCount 0 (layoutOf t) ∙ ap (nextOf (layoutOf t)) (pair-found f)
 
-  pub pair-not : p .found ≡ false → lowestPair 13 0 (freeOf (t .free)) ≡ fewer
+  pub pair-not : p .found ≡ false → lowestPair heightCount 0 (freeOf (t .free)) ≡ fewer
   unfolding pairOf
   pair-not f = sym (ps .meaning) ∙ rw (f, pairOf)
 
-  pub merge-settled : p .found ≡ false → nextMerge 13 0 (layoutOf t) ≡ settled
+  pub merge-settled : p .found ≡ false → nextMerge heightCount 0 (layoutOf t) ≡ settled
   unfolding layoutOf
-  merge-settled f = next-is 13 0 (layoutOf t) ∙ ap (nextOf (layoutOf t)) (pair-not f)
+  merge-settled f = next-is heightCount 0 (layoutOf t) ∙ ap (nextOf (layoutOf t)) (pair-not f)
 
 -- the two that are due, of k heights from h up
 pub record Due (k h : ℕ) (free : List Section) (l u : Section) (r : List Section) : Type 0 where

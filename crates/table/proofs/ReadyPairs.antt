@@ -1,4 +1,4 @@
--- In a whole layout on a disk of at most 4,096 blocks all that a merge asks for is there. Assumes nothing.
+-- In a whole layout on a disk of at most the greatest C all that a merge asks for is there. Assumes nothing.
 use mathlib.Core.Bool.{true}
 use mathlib.Core.List.{List, [], _++_, _∷_}
 use mathlib.Core.Path.{_≡_, ap, subst}
@@ -19,7 +19,7 @@ use Rattle.layout.specs.Layout.{File, Layout, OnDisk, filePieces, holdsBlock}
 use Rattle.layout.specs.Lists.{Each, done, more}
 use Rattle.layout.specs.Removing.{merge}
 use Rattle.section.proofs.Buddies.{buddy-aligned}
-use Rattle.section.specs.Limits.{greatestDisk}
+use Rattle.section.specs.Limits.{greatestDisk, heightCount}
 use Rattle.section.specs.Sections.{Addressable, buddyOf, section}
 use Rattle.section.specs.declared.Section.{Section}
 use Rattle.table.proofs.NextPair.{DueOf, due-is, pair-found}
@@ -32,7 +32,7 @@ use Rattle.table.specs.declared.Table.{Table}
 -- a section of such a disk is served
 pub served : (c : ℕ) → c ≤ greatestDisk → (s : Section) → OnDisk c s → Addressable s
 served c top s d =
-    (omega (arith, height-lt c 13 (omega arith) s d), omega (arith, d .within, pow-pos (s .height .value)))
+    (omega (arith, height-lt c heightCount (omega arith) s d), omega (arith, d .within, pow-pos (s .height .value)))
 
 -- the pieces of each file
 each-file : {P : Section → Type 0} (l : List File) → Each P (filePieces l)
@@ -86,13 +86,13 @@ module _ (c : ℕ) (w : Layout) (l u : Section) (r : List Section) (wh : Whole c
   }
 
 module _ (c : ℕ) (top : c ≤ greatestDisk) (t : Table) (p : Pair) (wh : Whole c (layoutOf t)) (sized : Sized t)
-    (ps : Pairs (t .free .count) (lowestPair 13 0 (freeOf (t .free))) p) (f : p .found ≡ true) where
+    (ps : Pairs (t .free .count) (lowestPair heightCount 0 (freeOf (t .free))) p) (f : p .found ≡ true) where
   pub due-fits : Fits c (layoutOf t) (p .lower) (p .upper) (freeOf (p .others))
   unfolding layoutOf
   due-fits =
       pair-fits c (layoutOf t) (p .lower) (p .upper) (freeOf (p .others)) wh
-      (subst (DueOf 13 0 (freeOf (t .free))) (pair-found (t .free .count) t p ps f)
-      (due-is 13 0 (freeOf (t .free)) (wh .rising)) .mergeable)
+      (subst (DueOf heightCount 0 (freeOf (t .free))) (pair-found (t .free .count) t p ps f)
+      (due-is heightCount 0 (freeOf (t .free)) (wh .rising)) .mergeable)
 
   pub merge-ready : Ready t p
   unfolding layoutOf filesOf

@@ -3,6 +3,7 @@ use mathlib.Core.Path.{_≡_, subst, sym}
 use Prim.Native.Nat.{_<_, _≤_, ℕ}
 use native.Mathlib.Omega.{arith}
 use lib.ListN.{length}
+use Rattle.section.specs.Limits.{heightCount}
 use Rattle.layout.proofs.Finding.{found-find}
 use Rattle.layout.proofs.MergeKeeps.{Whole}
 use Rattle.layout.proofs.Removed.{release-whole}
@@ -19,13 +20,13 @@ use Rattle.table.specs.Tables.{fileOf, filesOf, layoutOf}
 use Rattle.free_pieces.specs.declared.Pair.{Pair}
 use Rattle.table.specs.declared.Table.{Table}
 
-module _ (t : Table) (g : SoundSums 13 (layoutOf t)) where
+module _ (t : Table) (g : SoundSums heightCount (layoutOf t)) where
   -- a sound layout has at most a free piece for each height
   pub few-free : length (freeOf (t .free)) ≡ t .free .count → t .free .count ≤ piecePlaces
   unfolding layoutOf
   few-free exact =
-      let s = sums-sound 13 (layoutOf t) g in
-      omega (arith, free-few 13 (layoutOf t) (omega arith) (s .most-blocks) (s .free-count))
+      let s = sums-sound heightCount (layoutOf t) g in
+      omega (arith, free-few heightCount (layoutOf t) (omega arith) (s .most-blocks) (s .free-count))
 
   pub table-released-whole : (i : ℕ) (r : Table) → t .count ≤ length (t .files) → i < t .count
       → i ≡ firstPlace (hasId (entryAt t i .id)) (filesOf t) → Released t i r → Whole (t .blocks) (layoutOf r)
@@ -34,7 +35,7 @@ module _ (t : Table) (g : SoundSums 13 (layoutOf t)) where
       let x =
       found-find (entryAt t i .id) (filesOf t) (fileOf (entryAt t i)) (find-at t (entryAt t i .id) i most at lt) in
       subst (Whole (t .blocks)) (sym (re .layout))
-      (release-whole 13 (entryAt t i .id) (layoutOf t) (fileOf (entryAt t i)) (x .0) g (x .1))
+      (release-whole heightCount (entryAt t i .id) (layoutOf t) (fileOf (entryAt t i)) (x .0) g (x .1))
 
 pub table-merged-whole : (c : ℕ) (t : Table) (p : Pair) (r : Table)
     → Fits c (layoutOf t) (p .lower) (p .upper) (freeOf (p .others)) → Merged t p r → Whole c (layoutOf r)

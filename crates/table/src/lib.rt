@@ -4,6 +4,7 @@
 // A list is the first `count` items of an array, so each value stands for one list of the definitions: `Entry` for a file
 // with its pieces in page order, `Table` for a layout.
 use free_pieces::Free;
+use piece_lists::Pieces;
 use section::Section;
 
 mod files;
@@ -18,13 +19,13 @@ pub use merges::free_merged;
 pub struct Entry {
     pub id: u32,
     pub count: usize,
-    pub items: [Section; 13],
+    pub items: [Section; Pieces::PLACES],
 }
 
 // The disk's blocks, the files by rising id, and the free pieces.
 pub struct Table {
     pub blocks: u32,
     pub count: usize,
-    pub files: [Entry; 64],
+    pub files: [Entry; Section::MOST_FILES],
     pub free: Free,
 }

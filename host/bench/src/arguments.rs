@@ -15,7 +15,8 @@ bench: times the proved event disk manager beside a plain twin and beside the se
                     only makes a call N times, for a profiler to watch:
                     SIDE is proved, twin or model
                     CALL is format, add, remove, read-page, read-file, breaks, free or check
-                    DISK is 261-8, 261-64, 4096-8 or 4095-64: blocks and files
+                    DISK is 261-8, 261-64, 4096-8 or 4095-64: blocks and files, in the small catalogue; or
+                    261-8-large, 1048576-8 or 1048576-64, in the large one
   --help            this text
 
 Times depend on the machine and on what else it does; the ratios and their spread are what to read.
@@ -60,6 +61,7 @@ fn number(word: Option<String>) -> Result<usize, String> {
 #[cfg(test)]
 mod tests {
     use super::*;
+    use crate::shape::Shape;
 
     fn parsed(line: &str) -> Result<Task, String> {
         parse(line.split_whitespace().map(String::from))
@@ -72,6 +74,14 @@ mod tests {
         let profile = Task::Profile { side: Side::Twin, call: Call::ReadPage, disk: "261-8".into(), calls: 9 };
         assert_eq!(parsed("--profile twin read-page 261-8 9"), Ok(profile));
         assert_eq!(parsed("--rounds 5 --help"), Ok(Task::Help));
+    }
+
+    #[test]
+    fn the_help_names_every_disk() {
+        let words: Vec<&str> = HELP.split(|c: char| c.is_whitespace() || ",;:".contains(c)).collect();
+        for shape in Shape::ALL {
+            assert!(words.contains(&shape.name), "{}", shape.name);
+        }
     }
 
     #[test]

@@ -1,13 +1,16 @@
 //! Block copies: a removal that copies as many blocks as it may, beside copies of the same blocks and nothing else.
 
 use crate::sides::{make, Call, Lent, Side};
-use crate::timing::{interleaved, Spread};
+use crate::spread::Spread;
+use crate::timing::interleaved;
 use std::hint::black_box;
 use std::time::Instant;
-use twin::{BLOCK, CATALOGUE};
+use twin::{Version, BLOCK};
 
 /// A page of memory, in bytes.
 const PAGE: usize = 4096;
+/// The version of the catalogues.
+const VERSION: Version = Version::SMALL;
 
 /// Bytes that start a given number of bytes past a page of memory: how fast a copy is depends on that.
 struct Placed {
@@ -53,12 +56,12 @@ impl Chain {
         let blocks = 1u16 << (top + 2);
         let (held, free) =
             if copying { (lower_pairs(top), upper_pairs(top)) } else { (upper_pairs(top), lower_pairs(top)) };
-        let mut fields = vec![1, blocks, 3, 1, 1, 0, 1, 2, blocks / 2 - 1];
+        let mut fields = vec![VERSION.number, blocks, 3, 1, 1, 0, 1, 2, blocks / 2 - 1];
         fields.extend(held.as_flattened());
         fields.extend([3, 1, blocks - 1, 1]);
         fields.extend(free.as_flattened());
         let mut cat: Vec<u8> = fields.iter().flat_map(|field| field.to_be_bytes()).collect();
-        cat.resize(CATALOGUE, 0);
+        cat.resize(VERSION.catalogue, 0);
         let disk: Vec<u8> = (0..usize::from(blocks) * BLOCK).map(|i| (i / BLOCK) as u8).collect();
         let copies = model::removal_copies(&cat, &disk, 1).expect("the catalogue is sound");
         assert_eq!(copies.len(), if copying { usize::from(blocks) / 2 - 1 } else { 0 });

@@ -2,31 +2,38 @@
 
 #![forbid(unsafe_code)]
 
+mod agreement;
 mod arguments;
 mod copies;
 mod numbers;
 mod plot;
 mod report;
 mod scene;
+mod shape;
 mod sides;
+mod spread;
 mod timing;
 
 use arguments::Task;
 use report::Measured;
 use scene::Scene;
+use shape::Shape;
 use sides::{Call, Side};
 use std::path::Path;
 use std::process::ExitCode;
 
-/// Times every call on every disk, and the block copies.
+/// Times every call on every disk, one disk after another, and the block copies.
 fn measure(rounds: usize) -> Measured {
-    let scenes = Scene::all();
-    let mut rows = Vec::new();
-    for scene in 0..scenes.len() {
+    let (mut scenes, mut rows) = (Vec::new(), Vec::new());
+    for shape in Shape::ALL {
+        eprintln!("using the disk {} ..", shape.name);
+        let mut scene = Scene::used(shape);
+        agreement::sides_agree(&mut scene);
         for call in Call::ALL {
-            eprintln!("timing {} on {} ..", call.name(), scenes[scene].name);
-            rows.push(timing::time_call(&scenes, scene, call, rounds));
+            eprintln!("timing {} on {} ..", call.name(), shape.name);
+            rows.push(timing::time_call(&mut scene, scenes.len(), call, rounds));
         }
+        scenes.push(scene.facts);
     }
     let places = [(7, 0), (7, 16), (10, 0), (10, 16)];
     let copies = places.map(|(top, past)| copies::time_copies(top, past, rounds)).into();
@@ -46,9 +53,11 @@ fn write(measured: &Measured, tables: &str) -> Result<(), String> {
 
 /// Makes a call about `calls` times: whole batches.
 fn profile(side: Side, call: Call, disk: &str, calls: usize) -> Result<(), String> {
-    let scene = Scene::named(disk).ok_or(format!("'{disk}' is no disk"))?;
-    let mut batch = timing::Batch::new(&scene, call);
-    for _ in 0..calls.div_ceil(timing::BATCH) {
+    let shape = Shape::named(disk).ok_or(format!("'{disk}' is no disk"))?;
+    let mut scene = Scene::used(shape);
+    let mut batch = timing::Batch::new(&mut scene, call);
+    let count = timing::batch_of(side, call, &shape);
+    for _ in 0..calls.div_ceil(count) {
         batch.time(side);
     }
     Ok(())

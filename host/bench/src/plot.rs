@@ -1,8 +1,9 @@
 //! A plot of the ratios: a bar from 1 to the left is faster, one to the right slower. The scale is by doublings.
 
-use crate::report::Measured;
-use crate::scene::Scene;
-use crate::timing::{Row, Spread};
+use crate::report::{digits, disk_text, Measured};
+use crate::scene::Facts;
+use crate::spread::Spread;
+use crate::timing::Row;
 use std::fmt::Write;
 
 const LEFT: f64 = 130.0;
@@ -13,6 +14,8 @@ const TOP: f64 = 76.0;
 const TWIN: &str = "#1f5f8b";
 const SECOND: &str = "#c9a227";
 const AIM: f64 = 1.1;
+/// The least ratio that has a place of its own.
+const SHORTEST: f64 = 1.0 / 128.0;
 
 /// From a ratio to a place on the line.
 struct Scale {
@@ -21,7 +24,7 @@ struct Scale {
 }
 
 impl Scale {
-    /// The powers of two around all ratios.
+    /// The powers of two around all ratios, but for very small ones: their bars end at the left edge.
     fn of(rows: &[Row]) -> Scale {
         let ratios = rows.iter().flat_map(|row| [row.to_twin, row.to_model]);
         let (mut lowest, mut highest) = (0.5f64, 2.0f64);
@@ -29,7 +32,7 @@ impl Scale {
             lowest = lowest.min(ratio.low.log2().floor().exp2());
             highest = highest.max(ratio.high.log2().ceil().exp2());
         }
-        Scale { lowest, highest }
+        Scale { lowest: lowest.max(SHORTEST), highest }
     }
 
     fn x(&self, ratio: f64) -> f64 {
@@ -53,8 +56,8 @@ fn bar(svg: &mut String, scale: &Scale, y: f64, ratio: Spread, color: &str) {
     let (anchor, at) = if x < one { ("end", from - 4.0) } else { ("start", one.max(x) + 4.0) };
     let at = if x < one { at.min(low - 4.0) } else { at.max(high + 4.0) };
     let label = y + 7.0;
-    writeln!(svg, r#"<text x="{at:.1}" y="{label:.1}" text-anchor="{anchor}" class="n">{:.2}</text>"#, ratio.median)
-        .ok();
+    let number = digits(ratio.median);
+    writeln!(svg, r#"<text x="{at:.1}" y="{label:.1}" text-anchor="{anchor}" class="n">{number}</text>"#).ok();
 }
 
 fn text(svg: &mut String, x: f64, y: f64, class: &str, words: &str) {
@@ -81,12 +84,13 @@ fn legend(svg: &mut String) {
         writeln!(svg, r#"<rect x="{x}" y="34" width="12" height="8" fill="{color}"/>"#).ok();
         text(svg, x + 18.0, 42.0, "n", words);
     }
-    text(svg, 390.0, 42.0, "n", "left of 1: faster; dashed: the aim of 1.1; thin line: half of all rounds");
+    let words = format!("left of 1: faster; dashed: the aim of {AIM}; thin line: half of all rounds");
+    text(svg, 390.0, 42.0, "n", &words);
 }
 
 /// The calls of one disk, from `y` on. Answers where they end.
-fn group(svg: &mut String, scale: &Scale, scene: &Scene, rows: &[&Row], mut y: f64) -> f64 {
-    text(svg, 10.0, y + 18.0, "h", &format!("{} blocks, {} files", scene.blocks, scene.files));
+fn group(svg: &mut String, scale: &Scale, facts: &Facts, rows: &[&Row], mut y: f64) -> f64 {
+    text(svg, 10.0, y + 18.0, "h", &disk_text(&facts.shape));
     y += HEAD - 8.0;
     for row in rows {
         text(svg, 10.0, y + 12.0, "c", row.call.name());
@@ -102,9 +106,9 @@ pub fn svg(measured: &Measured) -> String {
     let scale = Scale::of(&measured.rows);
     let mut body = String::new();
     let mut y = TOP;
-    for (i, scene) in measured.scenes.iter().enumerate() {
+    for (i, facts) in measured.scenes.iter().enumerate() {
         let rows: Vec<&Row> = measured.rows.iter().filter(|row| row.scene == i).collect();
-        y = group(&mut body, &scale, scene, &rows, y);
+        y = group(&mut body, &scale, facts, &rows, y);
     }
     let mut back = String::new();
     grid(&mut back, &scale, y);

@@ -1,20 +1,29 @@
 //! The tables, in Markdown that is also plain to read.
 
 use crate::copies::Copies;
-use crate::scene::Scene;
-use crate::timing::{Row, Spread};
+use crate::scene::Facts;
+use crate::shape::Shape;
+use crate::spread::Spread;
+use crate::timing::{self, Row};
 
 /// All that was measured.
 pub struct Measured {
     pub rounds: usize,
-    pub scenes: Vec<Scene>,
+    pub scenes: Vec<Facts>,
     pub rows: Vec<Row>,
     pub copies: Vec<Copies>,
 }
 
+/// A ratio with two digits after the point, or as many more as a small one needs to be told from 0.
+pub fn digits(ratio: f64) -> String {
+    let places = if (1e-9..0.01).contains(&ratio) { (-ratio.log10()).ceil() as usize } else { 2 };
+    format!("{ratio:.places$}")
+}
+
 /// A median with its quartiles.
 fn ratio(spread: Spread) -> String {
-    format!("{:.2} ({:.2} to {:.2})", spread.median, spread.low, spread.high)
+    let [median, low, high] = [spread.median, spread.low, spread.high].map(digits);
+    format!("{median} ({low} to {high})")
 }
 
 /// A number with commas between its thousands.
@@ -47,15 +56,16 @@ fn table(header: &[&str], rows: &[Vec<String>]) -> String {
     format!("{}|{}|\n{body}", line(header.to_vec()), rules.join("|"))
 }
 
-fn scene_text(scene: &Scene) -> String {
-    format!(
-        "C = {}, {} files of {} blocks, {} pairs; the removal copies {} blocks",
-        thousands(scene.blocks as f64),
-        scene.files,
-        scene.file_blocks,
-        scene.pairs,
-        scene.copied
-    )
+/// A disk in a few words.
+pub fn disk_text(shape: &Shape) -> String {
+    format!("version {}, C = {}, {} files", shape.version.number, thousands(shape.blocks as f64), shape.files)
+}
+
+fn scene_text(facts: &Facts) -> String {
+    let shape = &facts.shape;
+    let [file_blocks, copied] = [shape.file_blocks as f64, facts.copied as f64].map(thousands);
+    let disk = disk_text(shape).replacen('v', "V", 1);
+    format!("{disk} of {file_blocks} blocks, {} pairs; the removal copies {copied} blocks", shape.pairs())
 }
 
 fn call_row(row: &Row) -> Vec<String> {
@@ -109,11 +119,21 @@ fn noise(rows: &[Row]) -> String {
     )
 }
 
+/// How often the calls were timed.
+fn effort(rounds: usize) -> String {
+    format!(
+        "{rounds} rounds. A batch has {} calls, or as many as move {} pages together, and at least one; for the\n\
+         second implementation, which may fill a map of all blocks, the blocks of the disk count like pages.\n",
+        timing::BATCH,
+        thousands(timing::BATCH_PAGES as f64)
+    )
+}
+
 /// All tables.
 pub fn text(measured: &Measured) -> String {
     let mut parts: Vec<String> = (0..measured.scenes.len()).map(|scene| scene_table(measured, scene)).collect();
     parts.push(copies_table(&measured.copies));
-    parts.push(format!("{} rounds. {}", measured.rounds, noise(&measured.rows)));
+    parts.push(effort(measured.rounds) + &noise(&measured.rows));
     parts.join("\n")
 }
 
@@ -130,6 +150,12 @@ pub fn put_between_marks(document: &str, tables: &str) -> Option<String> {
 #[cfg(test)]
 mod tests {
     use super::*;
+
+    #[test]
+    fn small_ratios_have_more_digits() {
+        let ratios = [12.346, 0.567, 0.012, 0.00026, -0.5, 0.0];
+        assert_eq!(ratios.map(digits), ["12.35", "0.57", "0.01", "0.0003", "-0.50", "0.00"]);
+    }
 
     #[test]
     fn numbers_have_commas() {

@@ -1,84 +1,54 @@
-//! The disks on which the calls are timed.
+//! A disk with its files, as it is after some use.
 
 use crate::numbers::Numbers;
-use crate::sides::{make, Call, Lent, Side};
-use twin::{BLOCK, CATALOGUE};
+use crate::shape::Shape;
+use crate::sides::{Call, Lent};
+use twin::BLOCK;
 
-/// A disk with its files, as it is after some use.
-pub struct Scene {
-    pub name: &'static str,
-    pub blocks: usize,
-    pub files: usize,
-    /// The blocks of each file.
-    pub file_blocks: usize,
-    pub pairs: u32,
+/// What is told of a scene.
+#[derive(Clone, Copy, Debug)]
+pub struct Facts {
+    pub shape: Shape,
     /// The blocks that the removal of `id` copies: no other file's removal copies more.
     pub copied: u64,
     pub id: u16,
-    cat: Vec<u8>,
-    disk: Vec<u8>,
 }
 
-/// The name of a disk, its blocks, the number of its files and the blocks of each.
-type Shape = (&'static str, usize, usize, usize);
-
-const SHAPES: [Shape; 4] =
-    [("261-8", 261, 8, 31), ("261-64", 261, 64, 3), ("4096-8", 4096, 8, 511), ("4095-64", 4095, 64, 63)];
+/// The buffers of all calls. The disk is the only one of its size: calls are made on it one after another, and its
+/// bytes are not put back, since no call goes by them.
+pub struct Scene {
+    pub facts: Facts,
+    /// The catalogue with the file of the id, and without.
+    with: Vec<u8>,
+    without: Vec<u8>,
+    pub disk: Vec<u8>,
+    content: Vec<u8>,
+    out: Vec<u8>,
+}
 
 impl Scene {
-    pub fn all() -> Vec<Scene> {
-        SHAPES.map(Scene::used).into()
-    }
-
-    pub fn named(name: &str) -> Option<Scene> {
-        SHAPES.into_iter().find(|shape| shape.0 == name).map(Scene::used)
-    }
-
     /// The scene after many calls.
-    fn used((name, blocks, files, file_blocks): Shape) -> Scene {
-        let (mut cat, mut disk) = (vec![0; CATALOGUE], vec![0; blocks * BLOCK]);
-        twin::format(&mut cat, &disk).expect("the disk has 1 to 4,096 blocks");
-        let content = content(file_blocks);
-        for place in 0..files {
-            twin::add(&mut cat, &mut disk, id_at(place), &content).expect("all files fit");
+    pub fn used(shape: Shape) -> Scene {
+        let (mut with, mut disk) = (vec![0; shape.version.catalogue], vec![0; shape.blocks * BLOCK]);
+        twin::format(&mut with, &disk).expect("the disk is one of the version");
+        let content = content(shape.file_blocks);
+        for place in 0..shape.files {
+            twin::add(&mut with, &mut disk, id_at(place), &content).expect("all files fit");
         }
-        use_disk(&mut cat, &mut disk, files, &content);
-        let (id, copied) = most_copied(&cat, &disk, files);
-        let free = (blocks - files * file_blocks) as u32;
-        let pairs = files as u32 * (file_blocks as u32).count_ones() + free.count_ones();
-        Scene { name, blocks, files, file_blocks, pairs, copied, id, cat, disk }
+        use_disk(&mut with, &mut disk, shape.files, &content);
+        let (id, copied) = most_copied(&with, &disk, shape.files);
+        let mut without = with.clone();
+        assert_eq!(twin::remove(&mut without, &mut disk, id), Ok(copied));
+        let out = vec![0; content.len()];
+        Scene { facts: Facts { shape, copied, id }, with, without, disk, content, out }
     }
 
-    /// The catalogue that a call starts from. An add puts the file of the id back that is missing there.
-    pub fn start(&self, call: Call) -> Vec<u8> {
-        let (mut cat, mut disk) = (self.cat.clone(), self.disk.clone());
-        if call == Call::Add {
-            twin::remove(&mut cat, &mut disk, self.id).expect("the file is there");
-        }
-        cat
-    }
-
-    /// The disk, the content of a file, and the output of a call.
-    pub fn buffers(&self, call: Call) -> (Vec<u8>, Vec<u8>, Vec<u8>) {
-        let pages = if call == Call::ReadPage { 1 } else { self.file_blocks };
-        (self.disk.clone(), content(self.file_blocks), vec![0; pages * BLOCK])
-    }
-
-    /// Makes sure that all sides answer alike, so that the same work is timed.
-    pub fn sides_agree(&self, call: Call) {
-        let outcomes = Side::ALL.map(|side| {
-            let mut cat = self.start(call);
-            let (mut disk, content, mut out) = self.buffers(call);
-            let answer = make(
-                side,
-                call,
-                &mut cat,
-                &mut Lent { disk: &mut disk, content: &content, out: &mut out, id: self.id },
-            );
-            assert!(answer.is_ok(), "{} refuses {}: {answer:?}", side.name(), call.name());
-            (answer, cat, disk, out)
-        });
-        assert!(outcomes.iter().all(|outcome| *outcome == outcomes[0]), "the sides differ at {}", call.name());
+    /// The catalogue that a call starts from, and its other buffers. An add puts the file of the id back, which is
+    /// missing in its catalogue.
+    pub fn lend(&mut self, call: Call) -> (&[u8], Lent<'_>) {
+        let start = if call == Call::Add { &self.without } else { &self.with };
+        let out = if call == Call::ReadPage { &mut self.out[..BLOCK] } else { &mut self.out[..] };
+        (start, Lent { disk: &mut self.disk, content: &self.content, out, id: self.facts.id })
     }
 }
 
@@ -114,9 +84,9 @@ fn use_disk(cat: &mut [u8], disk: &mut [u8], files: usize, content: &[u8]) {
     }
 }
 
-/// The file whose removal copies most blocks, and how many.
+/// The file whose removal copies most blocks, and how many. The second implementation tells it without a copy.
 fn most_copied(cat: &[u8], disk: &[u8], files: usize) -> (u16, u64) {
-    let copied = |id| twin::remove(&mut cat.to_vec(), &mut disk.to_vec(), id).expect("the file is there");
+    let copied = |id| model::removal_copies(cat, disk, id).expect("the file is there").len() as u64;
     let all = (0..files).map(|place| (id_at(place), copied(id_at(place))));
     all.reduce(|most, next| if next.1 > most.1 { next } else { most }).expect("there is a file")
 }

@@ -53,6 +53,14 @@ impl Call {
             Call::Check => "check",
         }
     }
+
+    /// About how many pages the call moves on a disk with files of so many blocks.
+    pub fn pages(self, file_blocks: usize) -> usize {
+        match self {
+            Call::Add | Call::Remove | Call::ReadFile => file_blocks,
+            _ => 1,
+        }
+    }
 }
 
 /// The buffers and numbers of one call, but for its catalogue.

@@ -1,43 +1,36 @@
 //! Rounds of timed batches, and what is made of their times.
 
+use crate::numbers::Numbers;
 use crate::scene::Scene;
+use crate::shape::Shape;
 use crate::sides::{make, Call, Lent, Side};
+use crate::spread::Spread;
 use std::hint::black_box;
 use std::time::Instant;
 
-/// The catalogues of a batch: each call has its own, so that none has to be restored while the time runs.
+/// The most calls of a batch: each has its own catalogue, so that none has to be restored while the time runs.
 pub const BATCH: usize = 16;
+/// The most pages that the calls of a batch move together, where one call does not move more.
+pub const BATCH_PAGES: usize = 1 << 16;
 /// The first rounds fill caches and are not counted.
 const WARM_UP: usize = 3;
 
-/// Quartiles: a quarter of the values lies below `low`, and a quarter above `high`.
-#[derive(Clone, Copy, Debug, PartialEq)]
-pub struct Spread {
-    pub low: f64,
-    pub median: f64,
-    pub high: f64,
+/// The calls of a batch. At each call the second implementation may fill a map of all blocks, which count like pages.
+pub fn batch_of(side: Side, call: Call, shape: &Shape) -> usize {
+    let pages = call.pages(shape.file_blocks);
+    let moved = if side == Side::Model { pages.max(shape.blocks) } else { pages };
+    (BATCH_PAGES / moved).clamp(1, BATCH)
 }
 
-impl Spread {
-    pub fn of(mut values: Vec<f64>) -> Spread {
-        values.sort_by(f64::total_cmp);
-        let at = |quarter: usize| values[(values.len() - 1) * quarter / 4];
-        Spread { low: at(1), median: at(2), high: at(3) }
-    }
-
-    /// The spread of one series over another, taken round by round.
-    pub fn of_ratios(over: &[f64], under: &[f64]) -> Spread {
-        Spread::of(over.iter().zip(under).map(|(a, b)| a / b).collect())
-    }
-}
-
-/// Runs rounds in each of which every series has its turn, the first one a place later each time. The times that `run`
-/// answers are collected by series.
+/// Runs rounds in each of which every series has its turn. The order changes from round to round: what is in the caches
+/// is left there by the series before. The times that `run` answers are collected by series.
 pub fn interleaved(series: usize, rounds: usize, mut run: impl FnMut(usize) -> f64) -> Vec<Vec<f64>> {
+    let mut numbers = Numbers(series as u64);
+    let mut order: Vec<usize> = (0..series).collect();
     let mut times = vec![Vec::with_capacity(rounds); series];
     for round in 0..WARM_UP + rounds {
-        for turn in 0..series {
-            let which = (round + turn) % series;
+        numbers.shuffle(&mut order);
+        for &which in &order {
             let time = run(which);
             if round >= WARM_UP {
                 times[which].push(time);
@@ -47,37 +40,35 @@ pub fn interleaved(series: usize, rounds: usize, mut run: impl FnMut(usize) -> f
     times
 }
 
-/// A batch of calls: each starts from the same catalogue, on the same disk.
-pub struct Batch {
+/// The catalogues and buffers of a batch of calls: each starts from the same catalogue, on the same disk.
+pub struct Batch<'a> {
     call: Call,
-    start: Vec<u8>,
+    shape: Shape,
+    start: &'a [u8],
     cats: Vec<Vec<u8>>,
-    disk: Vec<u8>,
-    content: Vec<u8>,
-    out: Vec<u8>,
-    id: u16,
+    lent: Lent<'a>,
 }
 
-impl Batch {
-    pub fn new(scene: &Scene, call: Call) -> Batch {
-        scene.sides_agree(call);
-        let start = scene.start(call);
-        let (disk, content, out) = scene.buffers(call);
-        Batch { call, cats: vec![start.clone(); BATCH], start, disk, content, out, id: scene.id }
+impl<'a> Batch<'a> {
+    pub fn new(scene: &'a mut Scene, call: Call) -> Batch<'a> {
+        let shape = scene.facts.shape;
+        let (start, lent) = scene.lend(call);
+        Batch { call, shape, start, cats: vec![start.to_vec(); BATCH], lent }
     }
 
     /// The nanoseconds of a call. Catalogues are restored before the clock starts; the bytes of the disk have no
     /// influence on what a call does, and stay.
     pub fn time(&mut self, side: Side) -> f64 {
-        for cat in &mut self.cats {
-            cat.copy_from_slice(&self.start);
+        let count = batch_of(side, self.call, &self.shape);
+        let cats = &mut self.cats[..count];
+        for cat in &mut *cats {
+            cat.copy_from_slice(self.start);
         }
-        let mut lent = Lent { disk: &mut self.disk, content: &self.content, out: &mut self.out, id: self.id };
         let clock = Instant::now();
-        for cat in &mut self.cats {
-            black_box(make(side, self.call, black_box(cat), &mut lent)).ok();
+        for cat in cats {
+            black_box(make(side, self.call, black_box(cat), &mut self.lent)).ok();
         }
-        clock.elapsed().as_nanos() as f64 / BATCH as f64
+        clock.elapsed().as_nanos() as f64 / count as f64
     }
 }
 
@@ -92,13 +83,13 @@ pub struct Row {
     pub to_itself: Spread,
 }
 
-/// Times a call on a disk, on every side by turns.
-pub fn time_call(scenes: &[Scene], scene: usize, call: Call, rounds: usize) -> Row {
-    let mut batch = Batch::new(&scenes[scene], call);
+/// Times a call on a disk, on every side by turns. The disk is the one at a place of the tables.
+pub fn time_call(scene: &mut Scene, place: usize, call: Call, rounds: usize) -> Row {
+    let mut batch = Batch::new(scene, call);
     let times = interleaved(Side::ALL.len(), rounds, |side| batch.time(Side::ALL[side]));
     let [proved, twin, model, again] = [0, 1, 2, 3].map(|side| times[side].as_slice());
     Row {
-        scene,
+        scene: place,
         call,
         times: [proved, twin, model, again].map(|series| Spread::of(series.to_vec())),
         to_twin: Spread::of_ratios(proved, twin),
@@ -112,20 +103,30 @@ mod tests {
     use super::*;
 
     #[test]
-    fn quartiles_of_nine_values() {
-        let spread = Spread::of([9, 1, 8, 2, 7, 3, 6, 4, 5].map(f64::from).to_vec());
-        assert_eq!(spread, Spread { low: 3.0, median: 5.0, high: 7.0 });
-    }
-
-    #[test]
     fn every_series_has_its_turn_in_each_round() {
         let mut turns = Vec::new();
-        let times = interleaved(3, 4, |which| {
+        let times = interleaved(3, 97, |which| {
             turns.push(which);
             which as f64
         });
-        assert_eq!(turns.len(), 3 * (4 + WARM_UP));
-        assert!(turns.chunks(3).all(|round| round.iter().sum::<usize>() == 3));
-        assert_eq!(times, [vec![0.0; 4], vec![1.0; 4], vec![2.0; 4]]);
+        assert_eq!(times, [vec![0.0; 97], vec![1.0; 97], vec![2.0; 97]]);
+        let rounds: Vec<&[usize]> = turns.chunks(3).collect();
+        assert_eq!(rounds.len(), 97 + WARM_UP);
+        assert!(rounds.iter().all(|round| (0..3).all(|series| round.contains(&series))));
+        for order in [[0, 1, 2], [0, 2, 1], [1, 0, 2], [1, 2, 0], [2, 0, 1], [2, 1, 0]] {
+            assert!(rounds.contains(&&order[..]), "{order:?}");
+        }
+    }
+
+    #[test]
+    fn calls_that_move_many_pages_have_smaller_batches() {
+        let batch = |side, call, name| batch_of(side, call, &Shape::named(name).expect("it is a disk"));
+        for small in ["261-8", "261-64", "4096-8", "4095-64"] {
+            assert!(Call::ALL.iter().all(|&call| batch(Side::Model, call, small) == BATCH));
+        }
+        assert_eq!(batch(Side::Twin, Call::Free, "1048576-8"), BATCH);
+        assert_eq!(batch(Side::Twin, Call::Add, "1048576-8"), 1);
+        assert_eq!(batch(Side::Proved, Call::ReadFile, "1048576-64"), 4);
+        assert_eq!(batch(Side::Model, Call::Free, "1048576-64"), 1);
     }
 }

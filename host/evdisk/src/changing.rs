@@ -6,9 +6,9 @@ use crate::json::Json;
 use crate::paths::Paths;
 use crate::shift_log::Line;
 use crate::store::{self, Store};
-use crate::table::{counted, places};
+use crate::table::{blocks_of, counted, places};
 use crate::{date, files, Failure};
-use event_disk::{carries, File as Event, Listing, BLOCK, CATALOGUE, MOST_BLOCKS};
+use event_disk::{carries, File as Event, Listing, Version, BLOCK};
 use std::io::Write;
 use std::path::Path;
 
@@ -24,20 +24,30 @@ pub fn say(arguments: &Arguments, out: &mut Vec<u8>, words: &str, json: Json) ->
 /// `evdisk format`.
 pub fn format(arguments: &Arguments, out: &mut Vec<u8>) -> Result<(), Failure> {
     let paths = arguments.paths();
-    let asked = arguments.number("--blocks")?;
+    let (asked, large) = (arguments.number("--blocks")?, arguments.has("--large"));
     if let Some(there) = first_there(&paths)?.filter(|_| !arguments.has("--force")) {
         return Err(Failure::file(there, "is there already; --force formats it and gives up the events on it"));
     }
-    let answer = match files::is_there(&paths.image)? {
-        true => format_again(paths, asked)?,
-        false => format_new(paths, asked)?,
+    let catalogue = match files::is_there(&paths.image)? {
+        true => format_again(paths, asked, large)?,
+        false => format_new(paths, asked, large)?,
     };
-    say(arguments, out, &format!("formatted: {}", counted(answer, "block")), blocks_json(answer))
+    let listing = event_disk::list(&catalogue)?;
+    say(arguments, out, &format!("formatted: {}", blocks_of(&listing)), blocks_json(&listing))
 }
 
 /// The JSON that gives a disk's number of blocks.
-pub fn blocks_json(blocks: u64) -> Json {
-    Json::Object(vec![("blocks", Json::number(blocks))])
+pub fn blocks_json(listing: &Listing) -> Json {
+    let version = Json::number(listing.version.number);
+    Json::Object(vec![("blocks", Json::number(listing.blocks)), ("version", version)])
+}
+
+/// The catalogue that format makes for a disk: the large one if that is asked for, or if the disk needs it.
+fn formatted(disk: &[u8], blocks: u64, large: bool) -> Result<Vec<u8>, Failure> {
+    let version = if large { Version::LARGE } else { Version::for_blocks(blocks) };
+    let mut catalogue = vec![0; version.catalogue];
+    event_disk::format(&mut catalogue, disk)?;
+    Ok(catalogue)
 }
 
 /// The first of a disk's files that is there, if one is.
@@ -51,60 +61,60 @@ fn first_there(paths: &Paths) -> Result<Option<&Path>, Failure> {
 }
 
 /// Formats a disk whose image is not there: makes the image, then the catalogue.
-fn format_new(paths: Paths, asked: Option<u64>) -> Result<u64, Failure> {
+fn format_new(paths: Paths, asked: Option<u64>, large: bool) -> Result<Vec<u8>, Failure> {
     if files::is_there(&paths.redo)? {
         let why = "a removal waits here for its image; bring the image back, or remove this file";
         return Err(Failure::file(&paths.redo, why));
     }
     let blocks = asked.ok_or_else(|| Failure::usage("a new image needs --blocks C"))?;
-    let possible = usize::try_from(blocks).ok().filter(|blocks| *blocks <= MOST_BLOCKS).unwrap_or(0);
-    let disk = vec![0; possible * BLOCK];
-    let mut catalogue = vec![0; CATALOGUE];
-    let answer = event_disk::format(&mut catalogue, &disk)?;
-    files::write_new(&paths.image, &disk)?;
+    // More blocks than any disk has are refused as no blocks are, and no memory is asked for them.
+    let most = store::greatest(|version| version.most_blocks);
+    let possible = usize::try_from(blocks).ok().filter(|blocks| *blocks <= most).unwrap_or(0);
+    let catalogue = formatted(&vec![0; possible * BLOCK], blocks, large)?;
+    files::write_new_zeros(&paths.image, (possible * BLOCK) as u64)?;
     files::sync_folder(&paths)?;
     let store = Store::to_change(paths)?;
     commit::replace_catalogue(&store.paths, &catalogue, &mut go_on)?;
-    Ok(answer)
+    Ok(catalogue)
 }
 
 /// Formats a disk whose image is there: its blocks keep their bytes.
-fn format_again(paths: Paths, asked: Option<u64>) -> Result<u64, Failure> {
+fn format_again(paths: Paths, asked: Option<u64>, large: bool) -> Result<Vec<u8>, Failure> {
     let store = Store::to_change(paths)?;
-    let disk = store::blocks(&store.paths, &store.image)?;
-    let mut catalogue = vec![0; CATALOGUE];
-    let answer = event_disk::format(&mut catalogue, &disk)?;
-    if asked.is_some_and(|asked| asked != answer) {
-        let why = format!("the image has {}: leave --blocks out, or remove the image", counted(answer, "block"));
+    let disk = store::unread_blocks(&store.paths, &store.image)?;
+    let blocks = (disk.len() / BLOCK) as u64;
+    let catalogue = formatted(&disk, blocks, large)?;
+    if asked.is_some_and(|asked| asked != blocks) {
+        let why = format!("the image has {}: leave --blocks out, or remove the image", counted(blocks, "block"));
         return Err(Failure::usage(why));
     }
     commit::replace_catalogue(&store.paths, &catalogue, &mut go_on)?;
-    Ok(answer)
+    Ok(catalogue)
 }
 
 /// `evdisk add`.
 pub fn add(arguments: &Arguments, out: &mut Vec<u8>) -> Result<(), Failure> {
     let id = arguments.id()?;
     let store = Store::to_change(arguments.paths())?;
-    let before = store.disk()?;
-    let content = content(arguments.file(), before.blocks.len())?;
-    let mut after = before.clone();
-    let answer = event_disk::add(&mut after.catalogue, &mut after.blocks, id, &content)?;
-    commit::add(&store.paths, &store.image, &before, &after, &mut go_on)?;
-    let pieces = event(&event_disk::list(&after.catalogue)?, id).in_page_order();
+    // An add reads no block and writes those of the new event alone, so no other has to be read from the image.
+    let mut disk = store.unread()?;
+    let content = content(arguments.file(), event_disk::free(&disk.catalogue).unwrap_or(0))?;
+    let answer = event_disk::add(&mut disk.catalogue, &mut disk.blocks, id, &content)?;
+    let pieces = event(&event_disk::list(&disk.catalogue)?, id).in_page_order();
+    commit::add(&store.paths, &store.image, &disk.blocks_of(&pieces), &disk.catalogue, &mut go_on)?;
     let blocks = counted(answer, "block");
     let words = format!("added {id}: {blocks} in {}: {}", counted(pieces.len() as u64, "piece"), places(&pieces));
     let json = [("id", Json::number(id)), ("blocks", Json::number(answer)), ("pieces", Json::pieces(&pieces))];
     say(arguments, out, &words, Json::Object(json.into()))
 }
 
-/// The bytes of an event's file. Of one longer than the disk only so much is read as gives the same refusal: more
-/// blocks than the disk has, and the same bytes past whole blocks.
-fn content(path: &Path, disk: usize) -> Result<Vec<u8>, Failure> {
+/// The bytes of an event's file. Of one with more blocks than are free only so much is read as gives the same refusal:
+/// a block more than are free, and the same bytes past whole blocks.
+fn content(path: &Path, free: u64) -> Result<Vec<u8>, Failure> {
     let file = files::open(path)?;
     let about = file.metadata().map_err(|why| Failure::file(path, why))?;
     let block = BLOCK as u64;
-    files::read_at_most(&file, path, (disk as u64 / block + 1) * block + about.len() % block)
+    files::read_at_most(&file, path, (free + 1) * block + about.len() % block)
 }
 
 /// The event with an id that is known to be there.
@@ -116,14 +126,15 @@ fn event(listing: &Listing, id: u16) -> &Event {
 pub fn remove(arguments: &Arguments, out: &mut Vec<u8>) -> Result<(), Failure> {
     let id = arguments.id()?;
     let store = Store::to_change(arguments.paths())?;
-    let before = store.disk()?;
-    let mut after = before.clone();
-    let copied = event_disk::remove(&mut after.catalogue, &mut after.blocks, id)?;
-    let listing = event_disk::list(&before.catalogue)?;
+    let mut disk = store.whole()?;
+    let before = disk.catalogue.clone();
+    let copied = event_disk::remove(&mut disk.catalogue, &mut disk.blocks, id)?;
+    let listing = event_disk::list(&before)?;
     let blocks = u64::from(event(&listing, id).blocks);
     let limit = carries(u64::from(listing.free), blocks);
     let line = Line { date: date::now(), id, blocks, copied, limit };
-    let redo = commit::written_down(&store.paths, &before, &after, &line.text())?;
+    let text = line.text();
+    let redo = commit::written_down(&store.paths, &store.image, &before, &disk, &text)?;
     commit::remove(&store.paths, &store.image, &redo, &mut go_on)?;
     let words = format!("removed {id}: {} copied (contract limit {limit})", counted(copied, "block"));
     say(arguments, out, &words, removal_json(&line, false))

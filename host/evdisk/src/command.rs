@@ -28,7 +28,7 @@ pub static COMMANDS: [Command; 10] = [
         name: "format",
         places: &["IMAGE"],
         valued: &[("--blocks", "C")],
-        flags: &["--force", "--json"],
+        flags: &["--large", "--force", "--json"],
         short: "make a disk of C blocks with no file",
         long: help::FORMAT,
         does: changing::format,

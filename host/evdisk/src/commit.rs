@@ -13,7 +13,7 @@
 
 use crate::checksum::checksum;
 use crate::paths::Paths;
-use crate::redo::{self, Redo};
+use crate::redo::{self, Block, Redo};
 use crate::store::Disk;
 use crate::{files, shift_log, Failure};
 use event_disk::BLOCK;
@@ -27,27 +27,39 @@ pub fn go_on(_: &str) -> Result<(), Failure> {
     Ok(())
 }
 
-/// The blocks that differ between two disks of the same length, with their bytes in the second.
-pub fn changed(before: &[u8], after: &[u8]) -> Vec<(u64, Vec<u8>)> {
-    let pairs = before.chunks(BLOCK).zip(after.chunks(BLOCK));
-    (0..).zip(pairs).filter(|(_, (old, new))| old != new).map(|(i, (_, new))| (i, new.to_vec())).collect()
+/// The blocks that are not as in the image, with their new bytes. The image is read once more for that, part by part,
+/// so that it need not be in memory twice.
+fn changed<'a>(paths: &Paths, image: &File, after: &'a [u8]) -> Result<Vec<Block<'a>>, Failure> {
+    let mut changed = Vec::new();
+    files::read_parts(image, &paths.image, 0..after.len(), |at, before| {
+        let pairs = before.chunks(BLOCK).zip(after[at..].chunks(BLOCK));
+        let numbered = (at as u64 / BLOCK as u64..).zip(pairs);
+        changed.extend(numbered.filter(|(_, (old, new))| old != new).map(|(number, (_, new))| (number, new)));
+    })?;
+    Ok(changed)
 }
 
 /// Makes an add last: the pages into free blocks, then the catalogue.
-pub fn add(paths: &Paths, image: &File, before: &Disk, after: &Disk, watch: Watch) -> Result<(), Failure> {
-    write_blocks(paths, image, &changed(&before.blocks, &after.blocks), watch)?;
-    replace_catalogue(paths, &after.catalogue, watch)
+pub fn add(paths: &Paths, image: &File, pages: &[Block], catalogue: &[u8], watch: Watch) -> Result<(), Failure> {
+    write_blocks(paths, image, pages, watch)?;
+    replace_catalogue(paths, catalogue, watch)
 }
 
-/// The removal that leads from one disk to another, with its line of the shift log.
-pub fn written_down(paths: &Paths, before: &Disk, after: &Disk, line: &str) -> Result<Redo, Failure> {
+/// The removal that leads from the disk in the image, with its catalogue, to another, with its line of the shift log.
+pub fn written_down<'a>(
+    paths: &Paths,
+    image: &File,
+    before: &[u8],
+    after: &'a Disk,
+    line: &'a str,
+) -> Result<Redo<'a>, Failure> {
     Ok(Redo {
-        blocks: (before.blocks.len() / BLOCK) as u64,
-        before: checksum(&before.catalogue),
-        catalogue: after.catalogue.clone(),
+        blocks: (after.blocks.len() / BLOCK) as u64,
+        before: checksum(before),
+        catalogue: &after.catalogue,
         log_length: shift_log::length(&paths.log)?,
-        log_line: line.as_bytes().to_vec(),
-        changed: changed(&before.blocks, &after.blocks),
+        log_line: line.as_bytes(),
+        changed: changed(paths, image, &after.blocks)?,
     })
 }
 
@@ -62,7 +74,7 @@ pub fn remove(paths: &Paths, image: &File, redo: &Redo, watch: Watch) -> Result<
 
 /// Writes the redo file and gives it its name, which decides the removal.
 fn decide(paths: &Paths, redo: &Redo, watch: Watch) -> Result<(), Failure> {
-    files::write(&paths.redo_new, &redo.bytes())?;
+    files::write_by(&paths.redo_new, |file| redo.write(file))?;
     watch("redo file written")?;
     files::rename(paths, &paths.redo_new, &paths.redo)?;
     watch("redo file named")
@@ -71,8 +83,8 @@ fn decide(paths: &Paths, redo: &Redo, watch: Watch) -> Result<(), Failure> {
 /// Does a removal that is decided, or does it again.
 fn carry_out(paths: &Paths, image: &File, redo: &Redo, watch: Watch) -> Result<(), Failure> {
     write_blocks(paths, image, &redo.changed, watch)?;
-    replace_catalogue(paths, &redo.catalogue, watch)?;
-    shift_log::put(&paths.log, redo.log_length, &redo.log_line)?;
+    replace_catalogue(paths, redo.catalogue, watch)?;
+    shift_log::put(&paths.log, redo.log_length, redo.log_line)?;
     files::sync_folder(paths)?;
     watch("log line written")?;
     files::remove(paths, &paths.redo)?;
@@ -80,7 +92,7 @@ fn carry_out(paths: &Paths, image: &File, redo: &Redo, watch: Watch) -> Result<(
 }
 
 /// Writes blocks to the image and has them last.
-fn write_blocks(paths: &Paths, image: &File, blocks: &[(u64, Vec<u8>)], watch: Watch) -> Result<(), Failure> {
+fn write_blocks(paths: &Paths, image: &File, blocks: &[Block], watch: Watch) -> Result<(), Failure> {
     for (number, bytes) in blocks {
         files::write_at(image, &paths.image, number * BLOCK as u64, bytes)?;
         watch("block written")?;
@@ -105,22 +117,21 @@ pub fn replace_catalogue(paths: &Paths, catalogue: &[u8], watch: Watch) -> Resul
 pub fn recover(paths: &Paths, image: &File, watch: Watch) -> Result<bool, Failure> {
     let pending = files::is_there(&paths.redo)?;
     if pending {
-        let redo = pending_removal(paths, image)?;
-        carry_out(paths, image, &redo, watch)?;
+        let bytes = files::read_at_most(&files::open(&paths.redo)?, &paths.redo, redo::most())?;
+        carry_out(paths, image, &pending_removal(paths, image, &bytes)?, watch)?;
     }
     files::remove(paths, &paths.redo_new)?;
     files::remove(paths, &paths.catalogue_new)?;
     Ok(pending)
 }
 
-/// The removal in the redo file, if that is whole and about this disk.
-fn pending_removal(paths: &Paths, image: &File) -> Result<Redo, Failure> {
-    let bytes = files::read_at_most(&files::open(&paths.redo)?, &paths.redo, redo::MOST)?;
+/// The removal in the bytes of the redo file, if that is whole and about this disk.
+fn pending_removal<'a>(paths: &Paths, image: &File, bytes: &'a [u8]) -> Result<Redo<'a>, Failure> {
     let wrong = |why: &str| Failure::file(&paths.redo, why).and("nothing was changed (see evdisk(1), RECOVERY)");
-    let redo = Redo::of_bytes(&bytes).ok_or_else(|| wrong("this redo file is damaged"))?;
-    let disk = Disk::of_files(paths, image)?;
+    let redo = Redo::of_bytes(bytes).ok_or_else(|| wrong("this redo file is damaged"))?;
+    let disk = Disk::unread(paths, image)?;
     let known = checksum(&disk.catalogue) == redo.before || disk.catalogue == redo.catalogue;
-    if !known || disk.blocks.len() as u64 != redo.blocks * BLOCK as u64 {
+    if !known || redo.blocks.checked_mul(BLOCK as u64) != Some(disk.blocks.len() as u64) {
         return Err(wrong("this redo file belongs to another disk"));
     }
     Ok(redo)

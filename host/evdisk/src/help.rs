@@ -9,8 +9,10 @@ pub fn version() -> String {
 }
 
 pub const FORMAT: &str = "\
-A new image gets C blocks of 512 bytes, all zero; C is 1 to 4096. An image that is there is only formatted with
---force: its blocks keep their bytes, --blocks may be left out, and all events on it are given up.";
+A new image gets C blocks of 512 bytes, all zero; C is 1 to 1048576. Up to 4096 blocks the catalogue is the small one of
+4096 bytes, above, or with --large, the large one of 16384 bytes. All other commands go by the catalogue's length.
+An image that is there is only formatted with --force: its blocks keep their bytes, --blocks may be left out, and all
+events on it are given up.";
 
 pub const ADD: &str = "\
 FILE is one or more records of 512 bytes. Says in which pieces the event lies, as (first block,length), in page order.";
@@ -34,9 +36,10 @@ pub const CHECK: &str = "\
 Says the number of blocks if the catalogue is sound and the image as long as it says; is refused otherwise.";
 
 pub const MAP: &str = "\
-Draws a letter or digit for each block and a dot for a free one, W blocks to a row (64 if not given), and a legend. On a
-terminal the letters have colours, unless NO_COLOR is set. With --svg the drawing goes to FILE as SVG instead; FILE must
-not be there yet, or is - for standard output.";
+Draws a letter or digit for each block and a dot for a free one, W to a row (64 if not given), and a legend. Above 4096
+blocks each letter is 2, 4, 8 or more blocks, as the legend says, and + where they are not all alike. On a terminal the
+letters have colours, unless NO_COLOR is set. With --svg the drawing goes to FILE as SVG instead; FILE must not be there
+yet, or is - for standard output.";
 
 pub const LOG: &str = "\
 Shows for each removal its date, the event's id and blocks, the blocks that were copied and the contract's limit.";

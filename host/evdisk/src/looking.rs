@@ -4,9 +4,9 @@ use crate::arguments::Arguments;
 use crate::changing::{blocks_json, removal_json, say};
 use crate::json::Json;
 use crate::store::Store;
-use crate::table::{self, counted};
+use crate::table::{self, blocks_of, counted};
 use crate::{files, map, shift_log, svg, Failure};
-use event_disk::{BLOCK, MOST_BLOCKS};
+use event_disk::BLOCK;
 use std::io::IsTerminal;
 use std::path::Path;
 
@@ -15,12 +15,7 @@ pub fn read(arguments: &Arguments, out: &mut Vec<u8>) -> Result<(), Failure> {
     let id = arguments.id()?;
     let first = arguments.number("--first")?.unwrap_or(0);
     let asked = arguments.number("--pages")?;
-    let disk = Store::to_look(arguments.paths())?.disk()?;
-    let pages = asked.unwrap_or_else(|| rest_of(&disk.catalogue, id, first));
-    // A file has at most as many pages as a disk has blocks: asking for one more is refused as asking for any more.
-    let pages = pages.min(MOST_BLOCKS as u64 + 1) as usize;
-    let mut content = vec![0; pages * BLOCK];
-    event_disk::read(&disk.catalogue, &disk.blocks, id, first, &mut content)?;
+    let mut content = pages(&Store::to_look(arguments.paths())?, id, first, asked)?;
     match arguments.option_file("--output") {
         Some(path) => files::write_new(&path, &content),
         None => {
@@ -30,11 +25,23 @@ pub fn read(arguments: &Arguments, out: &mut Vec<u8>) -> Result<(), Failure> {
     }
 }
 
-/// The pages of a file from a page on, and at least one, so that a first page past the end is refused as such.
-fn rest_of(catalogue: &[u8], id: u16, first: u64) -> u64 {
-    let files = event_disk::list(catalogue).map_or(Vec::new(), |listing| listing.files);
-    let pages = files.iter().find(|file| file.id == id).map_or(0, |file| u64::from(file.blocks));
-    pages.saturating_sub(first).max(1)
+/// So many pages of an event, or all from the first on. Only the event's blocks are read from the image.
+fn pages(store: &Store, id: u16, first: u64, asked: Option<u64>) -> Result<Vec<u8>, Failure> {
+    let mut disk = store.unread()?;
+    // What this refuses would be the first refusals of the read. It has to come first: pieces are read below.
+    event_disk::check(&disk.catalogue, &disk.blocks)?;
+    let listing = event_disk::list(&disk.catalogue)?;
+    let event = listing.files.iter().find(|event| event.id == id);
+    if let Some(event) = event {
+        disk.read_pieces(&store.paths, &store.image, &event.pieces)?;
+    }
+    // At least one, so that a first page past the end is refused as such.
+    let rest = event.map_or(0, |event| u64::from(event.blocks)).saturating_sub(first).max(1);
+    // An event has at most as many pages as its disk has blocks: asking for one more is refused as asking for any more.
+    let pages = asked.unwrap_or(rest).min(u64::from(listing.blocks) + 1);
+    let mut content = vec![0; pages as usize * BLOCK];
+    event_disk::read(&disk.catalogue, &disk.blocks, id, first, &mut content)?;
+    Ok(content)
 }
 
 /// `evdisk list`.
@@ -60,16 +67,17 @@ pub fn free(arguments: &Arguments, out: &mut Vec<u8>) -> Result<(), Failure> {
 
 /// `evdisk check`.
 pub fn check(arguments: &Arguments, out: &mut Vec<u8>) -> Result<(), Failure> {
-    let disk = Store::to_look(arguments.paths())?.disk()?;
-    let blocks = event_disk::check(&disk.catalogue, &disk.blocks)?;
-    say(arguments, out, &format!("sound: {}", counted(blocks, "block")), blocks_json(blocks))
+    let disk = Store::to_look(arguments.paths())?.unread()?;
+    event_disk::check(&disk.catalogue, &disk.blocks)?;
+    let listing = event_disk::list(&disk.catalogue)?;
+    say(arguments, out, &format!("sound: {}", blocks_of(&listing)), blocks_json(&listing))
 }
 
 /// `evdisk map`.
 pub fn map(arguments: &Arguments, out: &mut Vec<u8>) -> Result<(), Failure> {
     let width = arguments.number("--width")?.unwrap_or(64);
-    if !(1..=MOST_BLOCKS as u64).contains(&width) {
-        return Err(Failure::usage(format!("--width: '{width}' is not 1 to {MOST_BLOCKS}")));
+    if !(1..=map::MOST_LETTERS as u64).contains(&width) {
+        return Err(Failure::usage(format!("--width: '{width}' is not 1 to {}", map::MOST_LETTERS)));
     }
     let paths = arguments.paths();
     let name = paths.image.display().to_string();

@@ -1,12 +1,17 @@
-//! A disk drawn with letters, one for each block.
+//! A disk drawn with letters: one for each block, or for as many blocks as it takes that the map of a large disk can be
+//! read.
 
-use crate::table::{counted, places};
-use event_disk::{Listing, Piece};
+use crate::table::{counted, places, width};
+use event_disk::{Listing, Piece, Version};
 
 /// The letters of files: as many as a disk has files at most.
 const LETTERS: &[u8; 64] = b"0123456789ABCDEFGHIJKLMNOPQRSTUVWXYZabcdefghijklmnopqrstuvwxyz@#";
 /// The letter of a free block.
 const FREE: u8 = b'.';
+/// The letter of blocks that are not all of one file, and not all free.
+const MIXED: u8 = b'+';
+/// The most letters of a map: disks with the small catalogue are all drawn block by block.
+pub const MOST_LETTERS: usize = Version::SMALL.most_blocks;
 /// The colours of files by turns, as terminals number them.
 const COLOURS: [u8; 6] = [32, 33, 34, 35, 36, 31];
 
@@ -24,16 +29,19 @@ pub fn letters(listing: &Listing) -> Vec<usize> {
     letters
 }
 
-/// The letters of all blocks.
-fn blocks(listing: &Listing) -> Vec<u8> {
-    let mut blocks = vec![FREE; usize::from(listing.blocks)];
+/// How many blocks a letter stands for: the least power of two that needs no more letters than a map may have.
+pub fn unit(listing: &Listing) -> usize {
+    (listing.blocks as usize).div_ceil(MOST_LETTERS).next_power_of_two()
+}
+
+/// The letters of the whole disk, one for so many blocks.
+fn cells(listing: &Listing, unit: usize) -> Vec<u8> {
+    let mut blocks = vec![FREE; listing.blocks as usize];
     for (file, letter) in listing.files.iter().zip(letters(listing)) {
-        for piece in &file.pieces {
-            let first = usize::from(piece.first);
-            blocks[first..first + usize::from(piece.length)].fill(LETTERS[letter]);
-        }
+        file.pieces.iter().for_each(|piece| blocks[piece.range()].fill(LETTERS[letter]));
     }
-    blocks
+    let cell = |blocks: &[u8]| if blocks.iter().all(|letter| *letter == blocks[0]) { blocks[0] } else { MIXED };
+    blocks.chunks(unit).map(cell).collect()
 }
 
 /// A letter, in its file's colour if colours are wanted.
@@ -44,24 +52,30 @@ fn painted(letter: u8, colours: bool) -> String {
     }
 }
 
-/// The disk drawn, so many blocks to a row, and a legend.
-pub fn drawn(listing: &Listing, width: usize, colours: bool) -> String {
-    let mut text = String::new();
-    for (row, blocks) in blocks(listing).chunks(width).enumerate() {
-        let blocks: String = blocks.iter().map(|letter| painted(*letter, colours)).collect();
-        text += &format!("{:>5}  {blocks}\n", row * width);
+/// The disk drawn, so many letters to a row, and a legend.
+pub fn drawn(listing: &Listing, to_row: usize, colours: bool) -> String {
+    let (mut text, unit) = (String::new(), unit(listing));
+    let wide = width(u64::from(listing.blocks), 5);
+    for (row, cells) in cells(listing, unit).chunks(to_row).enumerate() {
+        let cells: String = cells.iter().map(|letter| painted(*letter, colours)).collect();
+        text += &format!("{:>wide$}  {cells}\n", row * to_row * unit);
     }
     text += "\n";
-    for (file, letter) in listing.files.iter().zip(letters(listing)) {
-        let name = format!("id {}", file.id);
-        text += &legend(&painted(LETTERS[letter], colours), &name, file.blocks, &file.in_page_order());
+    if unit > 1 {
+        let mixed = char::from(MIXED);
+        text += &format!("    each letter is {unit} blocks; {mixed} where they are not all of one event or all free\n");
     }
-    text + &legend(&painted(FREE, colours), "free", listing.free, &listing.free_pieces)
+    let wide = counted(u64::from(listing.blocks), "block").len().max(11);
+    for (file, letter) in listing.files.iter().zip(letters(listing)) {
+        let (letter, name) = (painted(LETTERS[letter], colours), format!("id {}", file.id));
+        text += &legend(&letter, &name, file.blocks, wide, &file.in_page_order());
+    }
+    text + &legend(&painted(FREE, colours), "free", listing.free, wide, &listing.free_pieces)
 }
 
-/// A line of the legend.
-fn legend(letter: &str, name: &str, blocks: u16, pieces: &[Piece]) -> String {
-    let line = format!("    {letter}  {name:<8}  {:>11}  {}", counted(u64::from(blocks), "block"), places(pieces));
+/// A line of the legend, with the number of blocks in a column that is so wide.
+fn legend(letter: &str, name: &str, blocks: u32, wide: usize, pieces: &[Piece]) -> String {
+    let line = format!("    {letter}  {name:<8}  {:>wide$}  {}", counted(u64::from(blocks), "block"), places(pieces));
     format!("{}\n", line.trim_end())
 }
 
@@ -76,7 +90,17 @@ mod tests {
             File { id: 2, blocks: 2, pieces: vec![piece(4, 2)] },
             File { id: 9, blocks: 1, pieces: vec![piece(7, 1)] },
         ];
-        Listing { blocks: 16, free: 13, files, free_pieces: vec![piece(0, 4), piece(6, 1), piece(8, 8)] }
+        let free_pieces = vec![piece(0, 4), piece(6, 1), piece(8, 8)];
+        Listing { version: Version::SMALL, blocks: 16, free: 13, files, free_pieces }
+    }
+
+    /// A disk with files that have no pieces, for their letters.
+    fn of_files(files: Vec<File>) -> Listing {
+        Listing { version: Version::SMALL, blocks: 64, free: 0, files, free_pieces: vec![] }
+    }
+
+    fn empty(blocks: u32) -> Listing {
+        Listing { version: Version::LARGE, blocks, free: blocks, files: vec![], free_pieces: vec![] }
     }
 
     #[test]
@@ -107,17 +131,54 @@ mod tests {
         let file = |id| File { id, blocks: 1, pieces: vec![] };
         for ids in [(1..=64).collect::<Vec<u16>>(), (1..=64).map(|i| i * 64).collect(), (65472..=65535).collect()] {
             let files = ids.iter().map(|id| file(*id)).collect();
-            let mut letters = letters(&Listing { blocks: 64, free: 0, files, free_pieces: vec![] });
+            let mut letters = letters(&of_files(files));
             letters.sort_unstable();
             assert_eq!(letters, (0..event_disk::MOST_FILES).collect::<Vec<_>>());
         }
-        assert!(!LETTERS.contains(&FREE));
+        assert!(!LETTERS.contains(&FREE) && !LETTERS.contains(&MIXED));
     }
 
     #[test]
     fn an_id_has_the_letter_of_its_number_or_the_next() {
         let file = |id| File { id, blocks: 1, pieces: vec![] };
         let files = vec![file(5), file(63), file(69), file(127)];
-        assert_eq!(letters(&Listing { blocks: 64, free: 0, files, free_pieces: vec![] }), [5, 63, 6, 0]);
+        assert_eq!(letters(&of_files(files)), [5, 63, 6, 0]);
+    }
+
+    #[test]
+    fn a_map_has_no_more_letters_than_it_may() {
+        let units = [(1, 1), (4096, 1), (4097, 2), (8192, 2), (8193, 4), (65_537, 32), (1 << 20, 256)];
+        for (blocks, unit_of) in units {
+            assert_eq!(unit(&empty(blocks)), unit_of, "{blocks} blocks");
+            let letters = cells(&empty(blocks), unit_of).len();
+            assert!(letters == (blocks as usize).div_ceil(unit_of) && letters <= MOST_LETTERS);
+        }
+    }
+
+    #[test]
+    fn a_letter_for_many_blocks_says_whether_they_are_all_alike() {
+        let piece = |first, length| Piece { first, length };
+        let files = vec![
+            File { id: 1, blocks: 3, pieces: vec![piece(2, 1), piece(8, 2)] },
+            File { id: 2, blocks: 2, pieces: vec![piece(4, 2)] },
+            File { id: 3, blocks: 1, pieces: vec![piece(8192, 1)] },
+        ];
+        let listing = Listing { files, ..empty(8193) };
+        let text = drawn(&listing, 1024, false);
+        let lines: Vec<&str> = text.lines().collect();
+        assert_eq!(lines[0], format!("    0  +++{}", ".".repeat(1021)));
+        assert_eq!(lines[1], format!(" 4096  {}", ".".repeat(1024)));
+        assert_eq!(lines[2..4], [" 8192  3", ""]);
+        assert_eq!(lines[4], "    each letter is 4 blocks; + where they are not all of one event or all free");
+        assert_eq!(lines[5], "    1  id 1         3 blocks  (8,2) (2,1)");
+    }
+
+    #[test]
+    fn the_map_of_the_greatest_disk_stands_in_columns() {
+        let text = drawn(&empty(1 << 20), 64, false);
+        let lines: Vec<&str> = text.lines().collect();
+        assert_eq!(lines.len(), 64 + 3);
+        assert_eq!(lines[63], format!("1032192  {}", ".".repeat(64)));
+        assert_eq!(lines[66], "    .  free      1048576 blocks");
     }
 }

@@ -2,13 +2,15 @@
 
 use crate::commit::{self, go_on};
 use crate::paths::Paths;
+use crate::redo::Block;
 use crate::{files, Failure};
-use event_disk::{BLOCK, CATALOGUE, MOST_BLOCKS};
+use event_disk::{Piece, Version, BLOCK};
 use std::fs::{File, TryLockError};
 use std::io::Write;
+use std::ops::Range;
 use std::path::Path;
 
-/// The bytes of a disk and of its catalogue.
+/// The bytes of a disk and of its catalogue, as they are lent to the manager's calls.
 #[derive(Clone, Debug, PartialEq, Eq)]
 pub struct Disk {
     pub catalogue: Vec<u8>,
@@ -16,21 +18,58 @@ pub struct Disk {
 }
 
 impl Disk {
-    /// The bytes in a disk's files. Of a file that is too long only as much is read as shows that.
-    pub fn of_files(paths: &Paths, image: &File) -> Result<Disk, Failure> {
-        Ok(Disk { catalogue: catalogue(paths)?, blocks: blocks(paths, image)? })
+    /// A disk with the catalogue of its file, and as many blocks as the image, none of which is read yet.
+    pub fn unread(paths: &Paths, image: &File) -> Result<Disk, Failure> {
+        Ok(Disk { catalogue: catalogue(paths)?, blocks: unread_blocks(paths, image)? })
+    }
+
+    /// A disk with all blocks read.
+    pub fn whole(paths: &Paths, image: &File) -> Result<Disk, Failure> {
+        let mut disk = Disk::unread(paths, image)?;
+        disk.read(paths, image, 0..disk.blocks.len())?;
+        Ok(disk)
+    }
+
+    /// Reads the blocks of pieces, which must be sections of this disk.
+    pub fn read_pieces(&mut self, paths: &Paths, image: &File, pieces: &[Piece]) -> Result<(), Failure> {
+        pieces.iter().try_for_each(|piece| {
+            let Range { start, end } = piece.range();
+            self.read(paths, image, start * BLOCK..end * BLOCK)
+        })
+    }
+
+    /// Reads some bytes. Parts that are all zero are not written, since they are zero before: so they take no memory.
+    fn read(&mut self, paths: &Paths, image: &File, bytes: Range<usize>) -> Result<(), Failure> {
+        files::read_parts(image, &paths.image, bytes, |at, part| {
+            if part.iter().any(|byte| *byte != 0) {
+                self.blocks[at..at + part.len()].copy_from_slice(part);
+            }
+        })
+    }
+
+    /// The blocks of pieces with their numbers, in the order of the pieces.
+    pub fn blocks_of(&self, pieces: &[Piece]) -> Vec<Block<'_>> {
+        let block = |number: usize| (number as u64, &self.blocks[number * BLOCK..][..BLOCK]);
+        pieces.iter().flat_map(|piece| piece.range()).map(block).collect()
     }
 }
 
-/// The bytes of the catalogue's file.
-fn catalogue(paths: &Paths) -> Result<Vec<u8>, Failure> {
-    let file = files::open(&paths.catalogue)?;
-    files::read_at_most(&file, &paths.catalogue, CATALOGUE as u64 + 1)
+/// The greatest of the numbers that the versions of the catalogue have.
+pub fn greatest(number: impl Fn(Version) -> usize) -> usize {
+    Version::ALL.into_iter().map(number).max().expect("there are versions")
 }
 
-/// The bytes of the image.
-pub fn blocks(paths: &Paths, image: &File) -> Result<Vec<u8>, Failure> {
-    files::read_from(image, &paths.image, 0, (MOST_BLOCKS * BLOCK) as u64 + 1)
+/// The bytes of the catalogue's file. Of one that is too long only as much is read as shows that.
+fn catalogue(paths: &Paths) -> Result<Vec<u8>, Failure> {
+    let file = files::open(&paths.catalogue)?;
+    files::read_at_most(&file, &paths.catalogue, greatest(|version| version.catalogue) as u64 + 1)
+}
+
+/// As many zero bytes as the image has, for calls that look at the disk's length alone or only write to it. They take
+/// no memory before they are written. An image that is too long gives no more than shows that.
+pub fn unread_blocks(paths: &Paths, image: &File) -> Result<Vec<u8>, Failure> {
+    let most = greatest(|version| version.most_blocks) * BLOCK + 1;
+    Ok(vec![0; files::length(image, &paths.image)?.min(most as u64) as usize])
 }
 
 /// An opened and locked disk with no unfinished removal. The lock ends with the command.
@@ -65,9 +104,14 @@ impl Store {
         Ok(Store { paths, image })
     }
 
-    /// The bytes of the disk and its catalogue.
-    pub fn disk(&self) -> Result<Disk, Failure> {
-        Disk::of_files(&self.paths, &self.image)
+    /// The disk with none of its blocks read.
+    pub fn unread(&self) -> Result<Disk, Failure> {
+        Disk::unread(&self.paths, &self.image)
+    }
+
+    /// The disk with all its blocks read.
+    pub fn whole(&self) -> Result<Disk, Failure> {
+        Disk::whole(&self.paths, &self.image)
     }
 
     /// The bytes of the catalogue.

@@ -2,11 +2,22 @@
 
 use crate::json::Json;
 use crate::shift_log::Line;
-use event_disk::{File, Listing, Piece};
+use event_disk::{File, Listing, Piece, Version};
 
 /// A number with the word for what is counted, as in "1 block" and "2 blocks".
 pub fn counted(number: u64, word: &str) -> String {
     format!("{number} {word}{}", if number == 1 { "" } else { "s" })
+}
+
+/// The blocks of a disk in words, and that its catalogue is the large one if it is.
+pub fn blocks_of(listing: &Listing) -> String {
+    let large = listing.version.catalogue > Version::SMALL.catalogue;
+    format!("{}{}", counted(u64::from(listing.blocks), "block"), if large { ", large catalogue" } else { "" })
+}
+
+/// How wide a column of numbers is: wide enough for the greatest, and at least so wide.
+pub fn width(greatest: u64, least: usize) -> usize {
+    greatest.to_string().len().max(least)
 }
 
 /// Pieces as the documents write them: (first block,length).
@@ -22,16 +33,17 @@ fn breaks(file: &File) -> u64 {
 
 /// The files and the free blocks of a catalogue, a line for each file.
 pub fn listing(listing: &Listing) -> String {
-    let mut text = String::from("   id  blocks  pieces  breaks  places (first block,length)\n");
+    let wide = width(u64::from(listing.blocks), 6);
+    let mut text = format!("   id  {:>wide$}  pieces  breaks  places (first block,length)\n", "blocks");
     for file in &listing.files {
         let places = places(&file.in_page_order());
-        text +=
-            &format!("{:>5}  {:>6}  {:>6}  {:>6}  {places}\n", file.id, file.blocks, file.pieces.len(), breaks(file));
+        let numbers = format!("{:>wide$}  {:>6}  {:>6}", file.blocks, file.pieces.len(), breaks(file));
+        text += &format!("{:>5}  {numbers}  {places}\n", file.id);
     }
     let places = places(&listing.free_pieces);
-    let free = format!(" free  {:>6}  {:>6}          {places}", listing.free, listing.free_pieces.len());
+    let free = format!(" free  {:>wide$}  {:>6}          {places}", listing.free, listing.free_pieces.len());
     let files = counted(listing.files.len() as u64, "file");
-    text + &format!("{}\n{}, {files}\n", free.trim_end(), counted(u64::from(listing.blocks), "block"))
+    text + &format!("{}\n{}, {files}\n", free.trim_end(), blocks_of(listing))
 }
 
 /// The same for scripts.
@@ -49,15 +61,22 @@ pub fn listing_json(listing: &Listing) -> Json {
         ("free", Json::number(listing.free)),
         ("files", Json::List(listing.files.iter().map(file).collect())),
         ("free_pieces", Json::pieces(&listing.free_pieces)),
+        ("version", Json::number(listing.version.number)),
     ])
 }
 
 /// The removals of a shift log, a line for each.
 pub fn shift_log(lines: &[Line]) -> String {
-    let mut text = String::from("date                     id  blocks  copied   limit\n");
-    for line in lines {
-        let Line { date, id, blocks, copied, limit } = line;
-        text += &format!("{date:<20}  {id:>5}  {blocks:>6}  {copied:>6}  {limit:>6}\n");
+    let greatest = lines.iter().flat_map(|line| [line.blocks, line.copied, line.limit]).max();
+    let wide = width(greatest.unwrap_or(0), 6);
+    let row = |date: &str, id: &str, numbers: [&str; 3]| {
+        let [blocks, copied, limit] = numbers;
+        format!("{date:<20}  {id:>5}  {blocks:>wide$}  {copied:>wide$}  {limit:>wide$}\n")
+    };
+    let mut text = row("date", "id", ["blocks", "copied", "limit"]);
+    for Line { date, id, blocks, copied, limit } in lines {
+        let numbers = [blocks, copied, limit].map(u64::to_string);
+        text += &row(date, &id.to_string(), numbers.each_ref().map(String::as_str));
     }
     text
 }
@@ -72,7 +91,7 @@ mod tests {
             File { id: 2, blocks: 7, pieces: vec![piece(0, 4), piece(13, 1), piece(14, 2)] },
             File { id: 3, blocks: 5, pieces: vec![piece(8, 4), piece(12, 1)] },
         ];
-        Listing { blocks: 16, free: 4, files, free_pieces: vec![piece(4, 4)] }
+        Listing { version: Version::SMALL, blocks: 16, free: 4, files, free_pieces: vec![piece(4, 4)] }
     }
 
     #[test]
@@ -93,11 +112,35 @@ mod tests {
     }
 
     #[test]
+    fn the_columns_of_a_large_disk_have_room_for_its_numbers() {
+        let piece = |first, length| Piece { first, length };
+        let files = vec![File { id: 65535, blocks: 524_289, pieces: vec![piece(0, 1), piece(524_288, 524_288)] }];
+        let free_pieces = (0..19).map(|height| piece(1 << height, 1 << height)).collect();
+        let large = Listing { version: Version::LARGE, blocks: 1 << 20, free: 524_287, files, free_pieces };
+        let text = listing(&large);
+        let lines: Vec<&str> = text.lines().collect();
+        assert_eq!(lines[0], "   id   blocks  pieces  breaks  places (first block,length)");
+        assert_eq!(lines[1], "65535   524289       2       1  (524288,524288) (0,1)");
+        assert!(lines[2].starts_with(" free   524287      19          (1,1) (2,2) (4,4) "), "{}", lines[2]);
+        assert_eq!(lines[3], "1048576 blocks, large catalogue, 1 file");
+    }
+
+    #[test]
     fn the_shift_log_stands_in_columns() {
         let date = "2026-01-31T23:59:00Z".to_string();
         let text = shift_log(&[Line { date, id: 65535, blocks: 1000, copied: 12, limit: 40 }]);
         let lines: Vec<&str> = text.lines().collect();
         assert_eq!(lines[1], "2026-01-31T23:59:00Z  65535    1000      12      40");
-        assert_eq!(lines[0].len(), lines[1].len());
+        assert_eq!(lines[0], "date                     id  blocks  copied   limit");
+    }
+
+    #[test]
+    fn the_shift_log_of_a_large_disk_stands_in_columns() {
+        let line = |blocks| Line { date: "2026-01-31T23:59:00Z".to_string(), id: 1, blocks, copied: 0, limit: 0 };
+        let text = shift_log(&[line(1 << 20), line(3)]);
+        let lines: Vec<&str> = text.lines().collect();
+        assert_eq!(lines[0], "date                     id   blocks   copied    limit");
+        assert_eq!(lines[1], "2026-01-31T23:59:00Z      1  1048576        0        0");
+        assert_eq!(lines[2], "2026-01-31T23:59:00Z      1        3        0        0");
     }
 }

@@ -4,18 +4,27 @@
 //! definitions in `crates/manager/specs` give. This crate lends them Rust's slices, so that a caller cannot pass a
 //! length that is not the buffer's, and cannot let a buffer that is written overlap another. It adds nothing else.
 //!
-//! A disk is 1 to 4,096 blocks of 512 bytes, a catalogue 4,096 bytes. Both are the caller's: keep the bytes of both
-//! between calls. A refused call changes no byte.
+//! A disk is 1 to 4,096 blocks of 512 bytes with the small catalogue of 4,096 bytes, or 1 to 1,048,576 blocks with the
+//! large one of 16,384 bytes: [`format`] goes by the catalogue's length, and so does every call after it. Disk and
+//! catalogue are the caller's: keep the bytes of both between calls. A refused call changes no byte.
 //!
 //! ```
+//! use event_disk::Version;
+//!
 //! let mut disk = vec![0; 16 * event_disk::BLOCK];
-//! let mut cat = [0; event_disk::CATALOGUE];
+//! let mut cat = [0; Version::SMALL.catalogue];
 //! event_disk::format(&mut cat, &disk)?;
 //! event_disk::add(&mut cat, &mut disk, 5, &[7; 3 * event_disk::BLOCK])?;
 //! let mut out = [0; event_disk::BLOCK];
 //! assert_eq!(event_disk::read(&cat, &disk, 5, 2, &mut out)?, 1);
 //! assert_eq!(out, [7; event_disk::BLOCK]);
 //! assert_eq!(event_disk::read(&cat, &disk, 5, 3, &mut out), Err(event_disk::Refusal::PastEnd));
+//!
+//! let mut large = [0; Version::LARGE.catalogue];
+//! let disk = vec![0; 5000 * event_disk::BLOCK];
+//! assert_eq!(event_disk::format(&mut cat, &disk), Err(event_disk::Refusal::NoDisk));
+//! assert_eq!(event_disk::format(&mut large, &disk), Ok(5000));
+//! assert_eq!(event_disk::list(&large)?.version, Version::LARGE);
 //! # Ok::<(), event_disk::Refusal>(())
 //! ```
 
@@ -28,18 +37,16 @@ mod archive;
 mod exports;
 mod listing;
 mod refusal;
+mod version;
 
 pub use listing::{carries, list, File, Listing, Piece};
 pub use refusal::Refusal;
+pub use version::Version;
 
 /// Whether the calls are the proved ones. They are unless the feature `unproved` has put the plain twin in their place.
 pub const PROVED: bool = cfg!(not(feature = "unproved"));
 /// The bytes of a block.
 pub const BLOCK: usize = 512;
-/// The bytes of a catalogue.
-pub const CATALOGUE: usize = 4096;
-/// The most blocks of a disk.
-pub const MOST_BLOCKS: usize = 4096;
 /// The most files of a disk.
 pub const MOST_FILES: usize = 64;
 

@@ -1,19 +1,27 @@
 //! What a sound catalogue lists: its files, their pieces and the free pieces.
 
-use crate::{free, Refusal};
+use crate::{free, Refusal, Version};
+use std::ops::Range;
 
 /// Blocks that follow each other: the first, and how many.
 #[derive(Clone, Copy, Debug, PartialEq, Eq, PartialOrd, Ord)]
 pub struct Piece {
-    pub first: u16,
-    pub length: u16,
+    pub first: u32,
+    pub length: u32,
+}
+
+impl Piece {
+    /// The numbers of its blocks.
+    pub fn range(self) -> Range<usize> {
+        self.first as usize..self.first as usize + self.length as usize
+    }
 }
 
 /// A file: its id, its blocks, and its pieces by rising first block.
 #[derive(Clone, Debug, PartialEq, Eq)]
 pub struct File {
     pub id: u16,
-    pub blocks: u16,
+    pub blocks: u32,
     pub pieces: Vec<Piece>,
 }
 
@@ -26,27 +34,48 @@ impl File {
     }
 }
 
-/// The contents of a catalogue: the blocks of its disk, its files by rising id, and the free pieces.
+/// The contents of a catalogue: its version, the blocks of its disk, its files by rising id, and the free pieces.
 #[derive(Clone, Debug, PartialEq, Eq)]
 pub struct Listing {
-    pub blocks: u16,
-    pub free: u16,
+    pub version: Version,
+    pub blocks: u32,
+    pub free: u32,
     pub files: Vec<File>,
     pub free_pieces: Vec<Piece>,
 }
 
-/// The fields of a catalogue, 2 bytes each, most significant first.
-struct Fields<'a>(std::slice::ChunksExact<'a, u8>);
+/// What is left to read of a sound catalogue.
+struct Fields<'a> {
+    rest: &'a [u8],
+    version: Version,
+}
 
 impl Fields<'_> {
-    fn next(&mut self) -> u16 {
-        let bytes = self.0.next().expect("a sound catalogue uses fewer bytes than it has");
-        u16::from_be_bytes([bytes[0], bytes[1]])
+    /// The number in a field of so many bytes, most significant first.
+    fn number(&mut self, bytes: usize) -> u32 {
+        let (field, rest) = self.rest.split_at(bytes);
+        self.rest = rest;
+        field.iter().fold(0, |number, byte| number << 8 | u32::from(*byte))
+    }
+
+    /// A field of 2 bytes in all versions.
+    fn short(&mut self) -> u16 {
+        self.number(2) as u16
+    }
+
+    /// A field for a number of blocks or of a block.
+    fn blocks(&mut self) -> u32 {
+        self.number(self.version.field)
     }
 
     /// As many pairs as the number of blocks has ones.
-    fn pieces(&mut self, blocks: u16) -> Vec<Piece> {
-        (0..blocks.count_ones()).map(|_| Piece { first: self.next(), length: self.next() }).collect()
+    fn pieces(&mut self, blocks: u32) -> Vec<Piece> {
+        (0..blocks.count_ones()).map(|_| Piece { first: self.blocks(), length: self.blocks() }).collect()
+    }
+
+    fn file(&mut self) -> File {
+        let (id, blocks) = (self.short(), self.blocks());
+        File { id, blocks, pieces: self.pieces(blocks) }
     }
 }
 
@@ -54,18 +83,12 @@ impl Fields<'_> {
 /// from catalogues whose numbers hold together.
 pub fn list(cat: &[u8]) -> Result<Listing, Refusal> {
     free(cat)?;
-    let mut fields = Fields(cat.chunks_exact(2));
-    let (_version, blocks, count) = (fields.next(), fields.next(), fields.next());
-    let mut files = Vec::new();
-    let mut free = blocks;
-    for _ in 0..count {
-        let (id, blocks) = (fields.next(), fields.next());
-        let pieces = fields.pieces(blocks);
-        free -= blocks;
-        files.push(File { id, blocks, pieces });
-    }
-    let free_pieces = fields.pieces(free);
-    Ok(Listing { blocks, free, files, free_pieces })
+    let version = Version::of_catalogue(cat).expect("the version of a sound catalogue suits its length");
+    let mut fields = Fields { rest: cat, version };
+    let (_number, blocks, count) = (fields.short(), fields.blocks(), fields.short());
+    let files: Vec<File> = (0..count).map(|_| fields.file()).collect();
+    let free = blocks - files.iter().map(|file| file.blocks).sum::<u32>();
+    Ok(Listing { version, blocks, free, files, free_pieces: fields.pieces(free) })
 }
 
 /// The contract's limit on the blocks that a removal copies: the sum of the place values at which free blocks plus

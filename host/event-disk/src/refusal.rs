@@ -6,11 +6,12 @@ use std::fmt;
 #[derive(Clone, Copy, Debug, PartialEq, Eq, PartialOrd, Ord, Hash)]
 #[repr(u8)]
 pub enum Refusal {
-    /// The catalogue buffer is not 4,096 bytes long.
+    /// The catalogue buffer is neither 4,096 nor 16,384 bytes long.
     CatalogueLength = 1,
-    /// The disk buffer is not 1 to 4,096 blocks of 512 bytes long (format alone).
+    /// The disk buffer is not 1 to 4,096 blocks of 512 bytes long, or 1 to 1,048,576 with the large catalogue (format
+    /// alone).
     NoDisk = 2,
-    /// The catalogue is not sound.
+    /// The catalogue is not sound. A version that does not suit its length is not.
     NotSound = 3,
     /// The disk buffer is not as long as the catalogue says.
     DiskLength = 4,
@@ -60,8 +61,10 @@ impl Refusal {
 impl fmt::Display for Refusal {
     fn fmt(&self, f: &mut fmt::Formatter<'_>) -> fmt::Result {
         f.write_str(match self {
-            Refusal::CatalogueLength => "the catalogue is not 4,096 bytes long",
-            Refusal::NoDisk => "the disk is not 1 to 4,096 blocks of 512 bytes long",
+            Refusal::CatalogueLength => "the catalogue is neither 4,096 nor 16,384 bytes long",
+            Refusal::NoDisk => {
+                "the disk is not 1 to 4,096 blocks of 512 bytes long, or 1 to 1,048,576 with the large catalogue"
+            }
             Refusal::NotSound => "the catalogue is not sound",
             Refusal::DiskLength => "the disk is not as long as the catalogue says",
             Refusal::IdZero => "0 is no id",
@@ -76,3 +79,34 @@ impl fmt::Display for Refusal {
 }
 
 impl std::error::Error for Refusal {}
+
+#[cfg(test)]
+mod tests {
+    use super::*;
+    use crate::Version;
+
+    /// A number with a comma before each three digits from the end.
+    fn with_commas(number: usize) -> String {
+        match number {
+            0..=999 => number.to_string(),
+            _ => format!("{},{:03}", with_commas(number / 1000), number % 1000),
+        }
+    }
+
+    #[test]
+    fn the_words_have_the_limits_of_every_version() {
+        for Version { catalogue, most_blocks, .. } in Version::ALL {
+            let (length, disk) = (Refusal::CatalogueLength.to_string(), Refusal::NoDisk.to_string());
+            assert!(length.contains(&format!(" {} ", with_commas(catalogue))), "{length}");
+            assert!(disk.contains(&format!("1 to {} ", with_commas(most_blocks))), "{disk}");
+        }
+    }
+
+    #[test]
+    fn each_number_has_its_refusal() {
+        for number in 0..=u64::from(u8::MAX) + 1 {
+            let found = Refusal::of_number(number).map(|refusal| u64::from(refusal.number()));
+            assert_eq!(found, (1..=11).contains(&number).then_some(number));
+        }
+    }
+}

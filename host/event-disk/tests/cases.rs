@@ -1,22 +1,24 @@
-//! Cases 1 to 11 of the scope document by the exported calls: the rows of the table that the crate `case_table` proves of
-//! the definitions, as catalogue bytes, answers and blocks.
+//! Cases 1 to 11 of the scope document by the exported calls, in each version of the catalogue: the rows of the table
+//! that the crate `case_table` proves of the definitions, as catalogue bytes, answers and blocks.
 
-use event_disk::{Refusal, BLOCK, CATALOGUE};
+use event_disk::{Refusal, Version, BLOCK};
 
-type Pairs = &'static [(u16, u16)];
-type Files = &'static [(u16, u16, Pairs)];
+type Pairs = &'static [(u32, u32)];
+type Files = &'static [(u16, u32, Pairs)];
 
 /// The bytes of a catalogue, field by field.
-fn bytes(blocks: u16, files: Files, free: Pairs) -> Vec<u8> {
-    let pair = |&(first, length): &(u16, u16)| [first, length];
-    let mut fields = vec![1, blocks, files.len() as u16];
-    for (id, n, pairs) in files {
-        fields.extend([*id, *n]);
-        fields.extend(pairs.iter().flat_map(pair));
+fn bytes(version: Version, blocks: u32, files: Files, free: Pairs) -> Vec<u8> {
+    let short = |number: u16| number.to_be_bytes().to_vec();
+    let field = |number: u32| number.to_be_bytes()[4 - version.field..].to_vec();
+    let pairs = |pairs: Pairs| pairs.iter().flat_map(|(first, length)| [field(*first), field(*length)]).collect();
+    let mut fields = vec![short(version.number), field(blocks), short(files.len() as u16)];
+    for (id, n, held) in files {
+        let held: Vec<_> = pairs(held);
+        fields.extend([short(*id), field(*n)].into_iter().chain(held));
     }
-    fields.extend(free.iter().flat_map(pair));
-    let mut bytes: Vec<u8> = fields.iter().flat_map(|field| field.to_be_bytes()).collect();
-    bytes.resize(CATALOGUE, 0);
+    fields.extend::<Vec<_>>(pairs(free));
+    let mut bytes = fields.concat();
+    bytes.resize(version.catalogue, 0);
     bytes
 }
 
@@ -26,15 +28,16 @@ fn page(id: u16, number: usize) -> Vec<u8> {
 }
 
 struct Station {
+    version: Version,
     cat: Vec<u8>,
     disk: Vec<u8>,
 }
 
 impl Station {
-    fn fresh(blocks: u16) -> Station {
-        let mut station = Station { cat: vec![7; CATALOGUE], disk: vec![255; BLOCK * usize::from(blocks)] };
-        assert_eq!(event_disk::format(&mut station.cat, &station.disk), Ok(u64::from(blocks)));
-        station
+    fn fresh(version: Version, blocks: u32) -> Station {
+        let (mut cat, disk) = (vec![7; version.catalogue], vec![255; BLOCK * blocks as usize]);
+        assert_eq!(event_disk::format(&mut cat, &disk), Ok(u64::from(blocks)));
+        Station { version, cat, disk }
     }
 
     fn add(&mut self, id: u16, pages: usize) -> Result<u64, Refusal> {
@@ -47,13 +50,13 @@ impl Station {
     }
 
     /// The catalogue is this one, and each of these blocks holds this page of this file.
-    fn is(&self, blocks: u16, files: Files, free: Pairs, pages: &[(usize, u16, usize)]) {
-        assert_eq!(self.cat, bytes(blocks, files, free));
+    fn is(&self, blocks: u32, files: Files, free: Pairs, pages: &[(usize, u16, usize)]) {
+        assert_eq!(self.cat, bytes(self.version, blocks, files, free));
         for &(block, id, number) in pages {
             assert_eq!(self.disk[block * BLOCK..][..BLOCK], page(id, number), "block {block}");
         }
         for &(id, n, _) in files {
-            let mut out = vec![0; BLOCK * usize::from(n)];
+            let mut out = vec![0; BLOCK * n as usize];
             assert_eq!(event_disk::read(&self.cat, &self.disk, id, 0, &mut out), Ok(u64::from(n)));
             assert!(out.chunks(BLOCK).enumerate().all(|(number, bytes)| bytes == page(id, number)), "file {id}");
         }
@@ -62,14 +65,16 @@ impl Station {
 
 #[test]
 fn cases_1_to_3() {
-    Station::fresh(1).is(1, &[], &[(0, 1)], &[]);
-    Station::fresh(5).is(5, &[], &[(0, 4), (4, 1)], &[]);
-    Station::fresh(261).is(261, &[], &[(0, 256), (256, 4), (260, 1)], &[]);
+    for version in Version::ALL {
+        Station::fresh(version, 1).is(1, &[], &[(0, 1)], &[]);
+        Station::fresh(version, 5).is(5, &[], &[(0, 4), (4, 1)], &[]);
+        Station::fresh(version, 261).is(261, &[], &[(0, 256), (256, 4), (260, 1)], &[]);
+    }
 }
 
 /// The disk of case 6.
-fn case_6() -> Station {
-    let mut s = Station::fresh(16);
+fn case_6(version: Version) -> Station {
+    let mut s = Station::fresh(version, 16);
     assert_eq!(s.add(5, 3), Ok(3));
     s.is(16, &[(5, 3, &[(0, 2), (2, 1)])], &[(3, 1), (4, 4), (8, 8)], &[(0, 5, 0), (1, 5, 1), (2, 5, 2)]);
     assert_eq!(s.add(9, 1), Ok(1));
@@ -82,50 +87,76 @@ fn case_6() -> Station {
 
 #[test]
 fn cases_4_to_7() {
-    let mut s = case_6();
+    for mut s in Version::ALL.map(case_6) {
+        assert_eq!(s.remove(5), Ok(2));
+        const FILES: Files = &[(2, 2, &[(4, 2)]), (9, 1, &[(7, 1)])];
+        s.is(16, FILES, &[(0, 4), (6, 1), (8, 8)], &[(2, 5, 2), (3, 9, 0), (6, 5, 2), (7, 9, 0)]);
+    }
+}
+
+/// Case 7 in the large catalogue by its bytes written out, and not as the function above makes them.
+#[test]
+fn case_7_of_version_2() {
+    let mut s = case_6(Version::LARGE);
     assert_eq!(s.remove(5), Ok(2));
-    const FILES: Files = &[(2, 2, &[(4, 2)]), (9, 1, &[(7, 1)])];
-    s.is(16, FILES, &[(0, 4), (6, 1), (8, 8)], &[(2, 5, 2), (3, 9, 0), (6, 5, 2), (7, 9, 0)]);
+    let (header, files) = ([0, 2, 0, 0, 0, 16, 0, 2], [[0, 2, 0, 0, 0, 2], [0, 9, 0, 0, 0, 1]]);
+    let held = [[0, 0, 0, 4, 0, 0, 0, 2], [0, 0, 0, 7, 0, 0, 0, 1]];
+    let free = [[0, 0, 0, 0, 0, 0, 0, 4], [0, 0, 0, 6, 0, 0, 0, 1], [0, 0, 0, 8, 0, 0, 0, 8]];
+    let used = [&header[..], &files[0], &held[0], &files[1], &held[1], &free.concat()].concat();
+    assert_eq!((used.len(), s.cat.len()), (60, 16_384));
+    assert_eq!(s.cat[..60], used);
+    assert_eq!(s.cat[60..], [0; 16_384 - 60]);
 }
 
 #[test]
 fn case_8() {
-    let mut s = case_6();
-    let before = (s.cat.clone(), s.disk.clone());
-    assert_eq!(s.add(7, 11), Err(Refusal::NoSpace));
-    assert_eq!((&s.cat, &s.disk), (&before.0, &before.1));
-    assert_eq!(s.add(7, 10), Ok(10));
     const FILES: Files = &[(2, 2, &[(4, 2)]), (5, 3, &[(0, 2), (2, 1)]), (7, 10, &[(6, 2), (8, 8)]), (9, 1, &[(3, 1)])];
-    s.is(16, FILES, &[], &[(8, 7, 0), (15, 7, 7), (6, 7, 8), (7, 7, 9)]);
+    for mut s in Version::ALL.map(case_6) {
+        let before = (s.cat.clone(), s.disk.clone());
+        assert_eq!(s.add(7, 11), Err(Refusal::NoSpace));
+        assert_eq!((&s.cat, &s.disk), (&before.0, &before.1));
+        assert_eq!(s.add(7, 10), Ok(10));
+        s.is(16, FILES, &[], &[(8, 7, 0), (15, 7, 7), (6, 7, 8), (7, 7, 9)]);
+    }
 }
 
 #[test]
 fn case_9() {
-    let mut s = Station::fresh(2);
-    assert_eq!((s.add(1, 1), s.remove(1)), (Ok(1), Ok(0)));
-    s.is(2, &[], &[(0, 2)], &[]);
+    for mut s in Version::ALL.map(|version| Station::fresh(version, 2)) {
+        assert_eq!((s.add(1, 1), s.remove(1)), (Ok(1), Ok(0)));
+        s.is(2, &[], &[(0, 2)], &[]);
+    }
 }
 
 #[test]
 fn case_10() {
-    let mut s = Station::fresh(5);
-    assert_eq!((s.add(1, 1), s.add(2, 1)), (Ok(1), Ok(1)));
-    s.is(5, &[(1, 1, &[(4, 1)]), (2, 1, &[(0, 1)])], &[(1, 1), (2, 2)], &[(4, 1, 0), (0, 2, 0)]);
-    assert_eq!(s.remove(1), Ok(1));
-    s.is(5, &[(2, 1, &[(4, 1)])], &[(0, 4)], &[(4, 2, 0), (0, 2, 0)]);
+    for mut s in Version::ALL.map(|version| Station::fresh(version, 5)) {
+        assert_eq!((s.add(1, 1), s.add(2, 1)), (Ok(1), Ok(1)));
+        s.is(5, &[(1, 1, &[(4, 1)]), (2, 1, &[(0, 1)])], &[(1, 1), (2, 2)], &[(4, 1, 0), (0, 2, 0)]);
+        assert_eq!(s.remove(1), Ok(1));
+        s.is(5, &[(2, 1, &[(4, 1)])], &[(0, 4)], &[(4, 2, 0), (0, 2, 0)]);
+    }
 }
 
-#[test]
-fn case_11() {
-    const BEFORE: Files = &[(1, 1, &[(13, 1)]), (2, 7, &[(0, 4), (4, 2), (6, 1)]), (3, 5, &[(8, 4), (12, 1)])];
-    let mut s = Station { cat: bytes(16, BEFORE, &[(7, 1), (14, 2)]), disk: vec![255; 16 * BLOCK] };
+/// The disk of case 11 before the removal.
+fn before_case_11(version: Version) -> Station {
+    const FILES: Files = &[(1, 1, &[(13, 1)]), (2, 7, &[(0, 4), (4, 2), (6, 1)]), (3, 5, &[(8, 4), (12, 1)])];
+    let cat = bytes(version, 16, FILES, &[(7, 1), (14, 2)]);
+    let mut s = Station { version, cat, disk: vec![255; 16 * BLOCK] };
     let lie = [(13, 1, 0), (0, 2, 0), (1, 2, 1), (2, 2, 2), (3, 2, 3), (4, 2, 4), (5, 2, 5), (6, 2, 6)];
     let more = [(8, 3, 0), (9, 3, 1), (10, 3, 2), (11, 3, 3), (12, 3, 4)];
     for (block, id, number) in lie.into_iter().chain(more) {
         s.disk[block * BLOCK..][..BLOCK].copy_from_slice(&page(id, number));
     }
-    s.is(16, BEFORE, &[(7, 1), (14, 2)], &[]);
-    assert_eq!(s.remove(1), Ok(3));
-    const AFTER: Files = &[(2, 7, &[(0, 4), (13, 1), (14, 2)]), (3, 5, &[(8, 4), (12, 1)])];
-    s.is(16, AFTER, &[(4, 4)], &[(14, 2, 4), (15, 2, 5), (13, 2, 6)]);
+    s.is(16, FILES, &[(7, 1), (14, 2)], &[]);
+    s
+}
+
+#[test]
+fn case_11() {
+    for mut s in Version::ALL.map(before_case_11) {
+        assert_eq!(s.remove(1), Ok(3));
+        const AFTER: Files = &[(2, 7, &[(0, 4), (13, 1), (14, 2)]), (3, 5, &[(8, 4), (12, 1)])];
+        s.is(16, AFTER, &[(4, 4)], &[(14, 2, 4), (15, 2, 5), (13, 2, 6)]);
+    }
 }

@@ -3,14 +3,17 @@
 pub const HELP: &str = "\
 histories: runs the proved event disk manager beside a second implementation and the plain book
 
-  histories random [--seed S] [--calls N] [--long]   long random histories
+  histories random [--seed S] [--calls N] [--long]   long random histories, on large disks too
   histories small [--depth D]                        all histories of disks of 1 to 6 blocks
   histories damage [--seed S] [--count N]            damaged catalogues, buffers of wrong lengths
   histories stack                                    the stack that each exported call uses
   histories all [any of these options]               all of the above
 
+Each is run in every version of the catalogue. Disks of more than 5,000 blocks are not compared whole after every call,
+but by the blocks that the call touched, and whole at intervals.
+
   --seed S    the number that fixes a run, 1 if not given
-  --calls N   how many random calls at least, 200000 if not given
+  --calls N   how many random calls at least, 200000 if not given; the calls on large disks are more in proportion
   --long      ten million random calls
   --depth D   how many adds and removes a list has at most; chosen for each disk if not given
   --count N   how many damaged catalogues, 200000 if not given
@@ -27,8 +30,13 @@ pub enum Command {
     Small,
     Damage,
     Stack,
-    /// One call of the stack measurement, made in a process of its own: the name of the scene, and the bytes left.
-    StackScene(String, usize),
+    /// One call of the stack measurement, made in a process of its own: the name of the scene, the number of the
+    /// version, and the bytes left.
+    StackScene {
+        scene: String,
+        version: u16,
+        left: usize,
+    },
     All,
 }
 
@@ -55,7 +63,8 @@ pub fn parse(mut arguments: impl Iterator<Item = String>) -> Result<(Command, Op
         "stack" => (Command::Stack, NONE),
         "stack-scene" => {
             let scene = arguments.next().ok_or("a scene is missing")?;
-            (Command::StackScene(scene, number("the bytes left", arguments.next())?), NONE)
+            let version = number("the version", arguments.next())?;
+            (Command::StackScene { scene, version, left: number("the bytes left", arguments.next())? }, NONE)
         }
         "all" => (Command::All, &["--seed", "--calls", "--long", "--depth", "--count"][..]),
         _ => return Err(format!("'{name}' is no command")),
@@ -105,11 +114,22 @@ mod tests {
             Ok((10_000_000, Some(3), 5))
         });
         assert_eq!(parsed("damage --help").map(|(command, _)| command), Ok(Command::Help));
+        let scene = Command::StackScene { scene: "none".into(), version: 2, left: 64 };
+        assert_eq!(parsed("stack-scene none 2 64").map(|(command, _)| command), Ok(scene));
     }
 
     #[test]
     fn wrong_arguments() {
-        for words in ["", "rndom", "random --depth 3", "random --seed", "random --seed x", "small x", "stack --long"] {
+        for words in [
+            "",
+            "rndom",
+            "random --depth 3",
+            "random --seed",
+            "random --seed x",
+            "small x",
+            "stack --long",
+            "stack-scene none 2",
+        ] {
             assert!(parsed(words).is_err(), "{words}");
         }
     }

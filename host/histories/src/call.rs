@@ -2,6 +2,8 @@
 
 use std::fmt;
 
+use model::{Version, BLOCK};
+
 use crate::numbers::mix;
 
 /// A call and its arguments. Contents and outputs are given by their length in bytes.
@@ -63,8 +65,8 @@ pub struct Lent {
 
 impl Lent {
     /// The right lengths for a disk of some blocks.
-    pub fn right(blocks: usize) -> Lent {
-        Lent { cat: model::CATALOGUE, disk: blocks * model::BLOCK }
+    pub fn right(version: Version, blocks: usize) -> Lent {
+        Lent { cat: version.catalogue, disk: blocks * BLOCK }
     }
 }
 
@@ -78,8 +80,9 @@ impl fmt::Display for Lent {
 /// the id and the page.
 pub fn stamp(content: &mut Vec<u8>, call: u64, id: u16, length: usize) {
     content.resize(length, 0);
-    for (page, bytes) in content.chunks_mut(model::BLOCK).enumerate() {
-        let mut word = mix(call << 32 ^ u64::from(id) << 16 ^ page as u64);
+    for (page, bytes) in content.chunks_mut(BLOCK).enumerate() {
+        // 22 bits for the page, 16 for the id, the others for the call.
+        let mut word = mix(call << 38 ^ u64::from(id) << 22 ^ page as u64);
         for place in bytes.chunks_mut(8) {
             place.copy_from_slice(&word.to_le_bytes()[..place.len()]);
             word = word.wrapping_add(0x9E37_79B9_7F4A_7C15);

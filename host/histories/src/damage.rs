@@ -1,8 +1,9 @@
 //! Damaged catalogues: every call on them is what the second implementation's own reading of the rules gives.
 
-use model::{Catalogue, BLOCK, CATALOGUE};
+use model::{Catalogue, Version, BLOCK};
 
 use crate::call::{stamp, Call, Lent};
+use crate::history::History;
 use crate::layouts::{any_sound, staircase};
 use crate::lengths;
 use crate::numbers::Numbers;
@@ -12,8 +13,24 @@ use crate::twin::{told, Difference, Twin};
 use crate::twists::twisted;
 use crate::watch::within_bound;
 
-/// The most blocks of the disks of each size; buffers are kept for each.
-const SIZES: [usize; 3] = [24, 160, 4096];
+/// The catalogues of one size: C is up to so many blocks, and the buffers of the disk have so many.
+#[derive(Clone, Copy)]
+struct Size {
+    blocks: usize,
+    disk: usize,
+    /// How many of 1,000 catalogues have this size.
+    share: usize,
+}
+
+/// The sizes of the disks that each version has.
+const SIZES: [Size; 3] = [
+    Size { blocks: 24, disk: 24, share: 934 },
+    Size { blocks: 160, disk: 160, share: 60 },
+    Size { blocks: 4096, disk: 4096, share: 1 },
+];
+/// Catalogues of any size that the version has are lent a disk of at most so many blocks: mostly a wrong one. That is
+/// refused after soundness, so that the catalogue of a long disk is tried without the disk.
+const ANY_SIZE: usize = 24;
 
 /// What was run.
 #[derive(Default)]
@@ -25,57 +42,73 @@ struct Counts {
     tally: Tally,
 }
 
-/// Runs the calls on so many damaged catalogues, and on others that are sound but that no list of calls need lead to.
-/// False if there was a difference.
+/// Runs the calls on so many damaged catalogues, and on others that are sound but that no list of calls need lead to:
+/// as many of each version. Then buffers of wrong lengths. False if there was a difference.
 pub fn run(seed: u64, count: u64) -> bool {
     println!("damaged catalogues: seed {seed}, {count} catalogues");
     let mut numbers = Numbers::from_seed(seed);
-    let mut twins = SIZES.map(|most| twin_of(most, &mut numbers));
-    let mut counts = Counts::default();
-    while counts.catalogues < count {
-        let size = match numbers.within(0, 999) {
-            0 => 2,
-            1..=60 => 1,
-            _ => 0,
-        };
-        if let Err(difference) = one_catalogue(SIZES[size], &mut twins[size], &mut numbers, &mut counts) {
-            println!("DIFFERENCE: seed {seed}, catalogue {}: {difference}", counts.catalogues + counts.untouched);
+    let share = count.div_ceil(Version::ALL.len() as u64);
+    for version in Version::ALL {
+        let mut counts = Counts::default();
+        if let Err(difference) = in_version(version, share, &mut numbers, &mut counts) {
+            let place = counts.catalogues + counts.untouched;
+            println!("DIFFERENCE: seed {seed}, version {}, catalogue {place}: {difference}", version.number);
             return false;
         }
+        counts.print(version);
     }
-    if let Err(difference) = staircases(&mut twins[SIZES.len() - 1], &mut counts) {
-        println!("DIFFERENCE: the removals that copy most: {difference}");
-        return false;
-    }
-    println!("  damaged {}: not sound {}, sound still {}", counts.catalogues, counts.refused, counts.still_sound);
-    println!("  not damaged {}: any sound layout", counts.untouched);
-    counts.tally.print_calls();
-    counts.tally.print_removals();
     lengths::run(&mut numbers)
 }
 
-fn twin_of(most: usize, numbers: &mut Numbers) -> Twin {
-    let mut disk = vec![0; most * BLOCK];
-    numbers.fill(&mut disk);
-    let mut twin = Twin::new(most);
-    twin.set_disk(&disk);
+/// So many damaged catalogues of one version, and the removals that copy most.
+fn in_version(version: Version, count: u64, numbers: &mut Numbers, counts: &mut Counts) -> Result<(), Difference> {
+    let mut sizes = SIZES.to_vec();
+    sizes.push(Size { blocks: version.most_blocks, disk: ANY_SIZE, share: 5 });
+    let mut twins: Vec<Twin> = sizes.iter().map(|size| twin_of(version, size.disk, numbers)).collect();
+    while counts.catalogues < count {
+        let size = numbers.pick_by(sizes.iter().map(|size| size.share));
+        one_catalogue(sizes[size], &mut twins[size], numbers, counts)?;
+    }
+    staircases(version, numbers, counts).map_err(|difference| format!("the removals that copy most: {difference}"))
+}
+
+impl Counts {
+    fn print(&self, version: Version) {
+        let Counts { catalogues, refused, still_sound, untouched, .. } = self;
+        println!("  version {}: damaged {catalogues}: not sound {refused}, sound still {still_sound}", version.number);
+        println!("  not damaged {untouched}: any sound layout");
+        self.tally.print_calls();
+        self.tally.print_removals();
+    }
+}
+
+fn twin_of(version: Version, blocks: usize, numbers: &mut Numbers) -> Twin {
+    let mut twin = Twin::new(version, blocks);
+    twin.fill_disk(blocks, numbers);
     twin
 }
 
+/// The bytes of a catalogue in the buffer of a version, which need not be its own.
+fn bytes_in(version: Version, catalogue: &Catalogue) -> Vec<u8> {
+    let mut bytes = vec![0; version.catalogue];
+    model::write(catalogue, &mut bytes);
+    bytes
+}
+
 /// Makes a sound catalogue, damages it mostly, and makes all calls on it.
-fn one_catalogue(most: usize, twin: &mut Twin, numbers: &mut Numbers, counts: &mut Counts) -> Result<(), Difference> {
-    let blocks = numbers.within(1, most);
-    let catalogue = any_sound(blocks as u16, numbers);
-    let mut bytes = vec![0; CATALOGUE];
-    model::write(&catalogue, &mut bytes);
+fn one_catalogue(size: Size, twin: &mut Twin, numbers: &mut Numbers, counts: &mut Counts) -> Result<(), Difference> {
+    let version = twin.version;
+    let blocks = numbers.within(1, size.blocks) as u32;
+    let catalogue = any_sound(version, blocks, numbers);
+    let mut bytes = bytes_in(version, &catalogue);
     if model::sound(&bytes).as_ref() != Some(&catalogue) {
         return Err(format!("a sound catalogue is not read back: {catalogue:?}"));
     }
     let damaged = !numbers.one_in(11);
     while damaged && model::sound(&bytes).as_ref() == Some(&catalogue) {
         match numbers.one_in(3) {
-            true => model::write(&twisted(blocks as u16, numbers), &mut bytes),
-            false => spoil(&mut bytes, numbers),
+            true => bytes = bytes_in(version, &twisted(version, blocks, numbers)),
+            false => spoil(&mut bytes, &catalogue, numbers),
         }
     }
     let meaning = model::sound(&bytes);
@@ -85,29 +118,32 @@ fn one_catalogue(most: usize, twin: &mut Twin, numbers: &mut Numbers, counts: &m
         (true, Some(_)) => counts.still_sound += 1,
     }
     counts.catalogues += u64::from(damaged);
-    let calls = calls(meaning.as_ref().unwrap_or(&catalogue), numbers);
+    let calls = calls(meaning.as_ref().unwrap_or(&catalogue), size.disk, numbers);
+    let lent = Lent::right(version, size.disk.min(blocks as usize));
     let mut content = Vec::new();
     for call in calls {
         twin.set_catalogue(&bytes);
         if let Call::Add { id, length } = call {
             stamp(&mut content, counts.tally.calls, id, length);
         }
-        one_call(twin, blocks, &call, &content, meaning.as_ref(), &mut counts.tally)
+        one_call(twin, lent, &call, &content, meaning.as_ref(), &mut counts.tally)
             .map_err(|difference| format!("{call}, C {blocks}: {difference}"))?;
     }
     Ok(())
 }
 
-/// The removals that copy most: 2^top - 1 blocks, and so as many as they may.
-fn staircases(twin: &mut Twin, counts: &mut Counts) -> Result<(), Difference> {
-    for top in 1..=11 {
-        let catalogue = staircase(top);
-        let mut bytes = vec![0; CATALOGUE];
-        model::write(&catalogue, &mut bytes);
-        twin.set_catalogue(&bytes);
-        let blocks = usize::from(catalogue.blocks);
-        let before = counts.tally.at_bound();
-        one_call(twin, blocks, &Call::Remove { id: 1 }, &[], Some(&catalogue), &mut counts.tally)?;
+/// The removals that copy most: 2^top - 1 blocks, and so as many as they may. The disks have up to the greatest C, and
+/// those that are long are compared by the blocks that the removal touched, and then whole once.
+fn staircases(version: Version, numbers: &mut Numbers, counts: &mut Counts) -> Result<(), Difference> {
+    let greatest = u32::from(version.most_height()) - 1;
+    for top in (1..greatest.min(12)).chain([greatest]) {
+        let catalogue = staircase(version, top);
+        let blocks = catalogue.blocks as usize;
+        let mut history = History::new(version, blocks, numbers);
+        history.twin.set_catalogue(&bytes_in(version, &catalogue));
+        let (before, right) = (counts.tally.at_bound(), history.right());
+        one_call(&mut history.twin, right, &Call::Remove { id: 1 }, &[], Some(&catalogue), &mut counts.tally)?;
+        history.twin.compare_disks()?;
         if counts.tally.at_bound() != before + 1 {
             return Err(format!("on {blocks} blocks the limit is not reached"));
         }
@@ -119,14 +155,14 @@ fn staircases(twin: &mut Twin, counts: &mut Counts) -> Result<(), Difference> {
 /// Makes a call on both. It is refused with 3 exactly if the bytes mean no catalogue.
 fn one_call(
     twin: &mut Twin,
-    blocks: usize,
+    lent: Lent,
     call: &Call,
     content: &[u8],
     meaning: Option<&Catalogue>,
     tally: &mut Tally,
 ) -> Result<(), Difference> {
     tally.begin(call);
-    let answer = twin.call(call, Lent::right(blocks), content)?;
+    let answer = twin.call(call, lent, content)?;
     tally.end(answer);
     if (answer == Err(3)) != meaning.is_none() {
         return Err(format!("{} though the bytes mean {meaning:?}", told(answer)));
@@ -138,15 +174,15 @@ fn one_call(
     Ok(())
 }
 
-/// Each call once, with arguments that a sound catalogue answers mostly.
-fn calls(catalogue: &Catalogue, numbers: &mut Numbers) -> [Call; 6] {
+/// Each call once, with arguments that a sound catalogue answers mostly. Contents and outputs fit the lent disk.
+fn calls(catalogue: &Catalogue, disk: usize, numbers: &mut Numbers) -> [Call; 6] {
     let ids: Vec<u16> = catalogue.entries.iter().map(|entry| entry.id).collect();
     let unheld = numbers.field();
     let id = if ids.is_empty() || numbers.one_in(10) { unheld } else { numbers.pick(&ids) };
-    let n = catalogue.entry(id).map_or(1, |entry| usize::from(entry.blocks.max(1)));
+    let n = catalogue.entry(id).map_or(1, |entry| entry.blocks.max(1) as usize);
     let first = numbers.within(0, n - 1);
-    let count = numbers.within(1, n - first);
-    let pages = numbers.within(1, usize::from(catalogue.free_blocks()).max(1));
+    let count = numbers.within(1, (n - first).min(disk));
+    let pages = numbers.within(1, (catalogue.free_blocks() as usize).clamp(1, disk));
     [
         Call::Add { id: unheld, length: pages * BLOCK },
         Call::Remove { id },

@@ -1,12 +1,15 @@
 //! One list of calls from a fresh format: both implementations, and the book.
 
-use model::{Answer, Book, BLOCK};
+use model::{Answer, Book, Version, BLOCK};
 
 use crate::call::{stamp, Call, Lent};
 use crate::numbers::Numbers;
 use crate::tally::Tally;
 use crate::twin::{told, Difference, Twin};
-use crate::watch::{compare_state, follow, within_bound};
+use crate::watch::{compare_state, compare_touched, follow, within_bound};
+
+/// The greatest disk of which all bytes are compared after every call; of greater ones a part.
+pub const MOST_WHOLE: usize = 5000;
 
 /// A list of calls as far as it has been run.
 pub struct History {
@@ -18,14 +21,19 @@ pub struct History {
 
 impl History {
     /// A disk of some blocks and a catalogue, with any bytes, before its format.
-    pub fn new(blocks: usize, numbers: &mut Numbers) -> History {
-        let mut twin = Twin::new(blocks + 1);
-        let mut bytes = vec![0; (blocks + 1) * BLOCK];
+    pub fn new(version: Version, blocks: usize, numbers: &mut Numbers) -> History {
+        let most = blocks + 1;
+        let mut twin = if blocks <= MOST_WHOLE { Twin::new(version, most) } else { Twin::in_parts(version, most) };
+        twin.fill_disk(most, numbers);
+        let mut bytes = vec![0; BLOCK];
         numbers.fill(&mut bytes);
-        twin.set_disk(&bytes);
-        numbers.fill(&mut bytes[..BLOCK]);
-        twin.set_catalogue(&bytes[..BLOCK]);
+        twin.set_catalogue(&bytes);
         History { twin, book: Book::new(blocks as u64), blocks, content: Vec::new() }
+    }
+
+    /// The right lengths of the buffers.
+    pub fn right(&self) -> Lent {
+        Lent::right(self.twin.version, self.blocks)
     }
 
     /// Makes a call of the list. The number of the call goes into the pages that it adds.
@@ -41,7 +49,7 @@ impl History {
         let answer = self.twin.call(call, lent, &self.content)?;
         tally.end(answer);
         if !self.is_of_the_list(call, lent) {
-            return refused_by_length(answer).map(|()| answer);
+            return self.refused_by_length(call, lent, answer).map(|()| answer);
         }
         follow(&mut self.book, call, &self.content, &self.twin, answer)?;
         match (call, answer) {
@@ -50,7 +58,13 @@ impl History {
             // The bytes were found to be the second implementation's, which it only borrows to look at.
             _ => return Ok(answer),
         }
-        compare_state(&self.book, &self.twin).map(|()| answer)
+        compare_touched(&self.book, &self.twin).map(|()| answer)
+    }
+
+    /// Compares all bytes of the disks, and the pages of all files.
+    pub fn compare_whole(&self) -> Result<(), Difference> {
+        self.twin.compare_disks()?;
+        compare_state(&self.book, &self.twin)
     }
 
     /// Goes back to bytes and lines that a list of calls led to; the lines are pages stamped without a call's number.
@@ -72,7 +86,7 @@ impl History {
 
     /// Whether the lengths of the buffers are right, so that the book follows the call.
     fn is_of_the_list(&self, call: &Call, lent: Lent) -> bool {
-        let right = Lent::right(self.blocks);
+        let right = self.right();
         match call {
             Call::Breaks { .. } | Call::Free => lent.cat == right.cat,
             _ => lent == right,
@@ -87,7 +101,7 @@ impl History {
             self.content.resize(length, 0);
         }
         tally.begin(call);
-        let answer = self.twin.call(call, Lent::right(self.blocks), &self.content)?;
+        let answer = self.twin.call(call, self.right(), &self.content)?;
         tally.end(answer);
         self.twin.set_catalogue(&before);
         match answer {
@@ -95,12 +109,19 @@ impl History {
             _ => Err(format!("a catalogue that is not sound gave {}", told(answer))),
         }
     }
-}
 
-/// A call with a buffer of a wrong length has to be refused for it, or for a catalogue that is not 4,096 bytes.
-fn refused_by_length(answer: Answer) -> Result<(), Difference> {
-    match answer {
-        Err(1 | 2 | 4) => Ok(()),
-        _ => Err(format!("a buffer of a wrong length gave {}", told(answer))),
+    /// A call with a buffer of a wrong length has to be refused for it: by the catalogue's length, by its version if
+    /// another version is as long, or by the disk's length.
+    fn refused_by_length(&self, call: &Call, lent: Lent, answer: Answer) -> Result<(), Difference> {
+        let number = match (Version::of_length(lent.cat), call) {
+            (None, _) => 1,
+            (_, Call::Format) => 2,
+            _ if lent.cat != self.right().cat => 3,
+            _ => 4,
+        };
+        match answer {
+            Err(refusal) if refusal == number => Ok(()),
+            _ => Err(format!("a buffer of a wrong length gave {}, not refused {number}", told(answer))),
+        }
     }
 }

@@ -1,17 +1,18 @@
 //! Sound catalogues of all kinds, also such as no list of calls leads to.
 
-use model::{Catalogue, Entry, Pair, MOST_FILES};
+use model::{Catalogue, Entry, Pair, Version, MOST_FILES};
 
 use crate::numbers::Numbers;
 
 /// A sound catalogue of a disk of some blocks: the disk is cut into sections, which go to owners of distinct lengths.
-pub fn any_sound(blocks: u16, numbers: &mut Numbers) -> Catalogue {
+pub fn any_sound(version: Version, blocks: u32, numbers: &mut Numbers) -> Catalogue {
     let sections = cut(blocks, numbers);
-    let most = (0..=12).map(|height| of_height(&sections, height).count()).max().unwrap_or(1);
+    let heights = 0..=blocks.ilog2();
+    let most = heights.clone().map(|height| of_height(&sections, height).count()).max().unwrap_or(1);
     let owners = numbers.within(most, (MOST_FILES + 1).min(most + 12));
     let mut held: Vec<Vec<Pair>> = vec![Vec::new(); owners];
     let mut order: Vec<usize> = (0..owners).collect();
-    for height in 0..=12 {
+    for height in heights {
         numbers.shuffle(&mut order);
         for (pair, &owner) in of_height(&sections, height).zip(&order) {
             held[owner].push(*pair);
@@ -24,18 +25,39 @@ pub fn any_sound(blocks: u16, numbers: &mut Numbers) -> Catalogue {
     held.retain(|pairs| !pairs.is_empty());
     let ids = distinct_ids(held.len(), numbers);
     let entries = ids.into_iter().zip(held).map(|(id, pairs)| entry(id, pairs)).collect();
-    Catalogue { blocks, entries, free }
+    Catalogue { version, blocks, entries, free }
+}
+
+/// The sound catalogue of a version that has as many pairs as any can have. Each of the owners, 64 files and the free
+/// part, has a piece of each height up to one, and as many of them as there is space for have one of the next height.
+pub fn most_pairs(version: Version) -> Catalogue {
+    let owners = MOST_FILES + 1;
+    let heights = (version.most_blocks / owners + 1).ilog2();
+    let next = (version.most_blocks - owners * ((1 << heights) - 1)) >> heights;
+    let mut held = vec![Vec::new(); owners];
+    let mut blocks = 0;
+    // Pieces that lie one after the other by falling length all start at a multiple of theirs.
+    for height in (0..=heights).rev() {
+        let count = if height == heights { next } else { owners };
+        for pairs in &mut held[..count] {
+            pairs.push(Pair { first: blocks, length: 1 << height });
+            blocks += 1 << height;
+        }
+    }
+    let free = held.pop().unwrap_or_default();
+    let entries = (1..).zip(held).map(|(id, pairs)| entry(id, pairs)).collect();
+    Catalogue { version, blocks, entries, free }
 }
 
 /// The sound catalogue of 2^(top + 1) blocks on which the removal of id 1, a file of one block, copies most: at each
 /// height below the top the lowest free section is met by one that is not its buddy.
-pub fn staircase(top: u32) -> Catalogue {
+pub fn staircase(version: Version, top: u32) -> Catalogue {
     let free_piece = |height: u32| Pair { first: 3 << height, length: 1 << height };
     let held_piece = |height: u32| Pair { first: 2 << height, length: 1 << height };
     let free = [Pair { first: 0, length: 1 }].into_iter().chain((1..top).map(free_piece)).collect();
     let held = [Pair { first: 1, length: 1 }].into_iter().chain((1..top).map(held_piece)).collect();
     let entries = vec![entry(1, vec![held_piece(0)]), entry(2, held), entry(3, vec![free_piece(0)])];
-    Catalogue { blocks: 2 << top, entries, free }
+    Catalogue { version, blocks: 2 << top, entries, free }
 }
 
 fn of_height(sections: &[Pair], height: u32) -> impl Iterator<Item = &Pair> {
@@ -47,14 +69,14 @@ fn entry(id: u16, pairs: Vec<Pair>) -> Entry {
 }
 
 /// Sections that tile the disk, of each height at most as many as there can be owners.
-fn cut(blocks: u16, numbers: &mut Numbers) -> Vec<Pair> {
+fn cut(blocks: u32, numbers: &mut Numbers) -> Vec<Pair> {
     let mut sections = Vec::new();
     let mut first = 0;
-    for height in (0..=12).rev().filter(|height| blocks >> height & 1 == 1) {
+    for height in (0..=blocks.ilog2()).rev().filter(|height| blocks >> height & 1 == 1) {
         sections.push(Pair { first, length: 1 << height });
         first += 1 << height;
     }
-    for _ in 0..numbers.within(0, usize::from(blocks).min(400)) {
+    for _ in 0..numbers.within(0, (blocks as usize).min(400)) {
         let place = numbers.within(0, sections.len() - 1);
         let Pair { first, length } = sections[place];
         let half = length / 2;

@@ -3,9 +3,11 @@
 #![forbid(unsafe_code)]
 
 mod arguments;
+mod before;
 mod call;
 mod damage;
 mod history;
+mod large;
 mod layouts;
 mod lengths;
 mod mixes;
@@ -19,6 +21,7 @@ mod stack;
 mod tally;
 #[cfg(test)]
 mod tests;
+mod touched;
 mod twin;
 mod twists;
 mod watch;
@@ -46,7 +49,7 @@ fn run(command: &Command, options: &Options) -> bool {
             print!("{HELP}");
             true
         }
-        Command::StackScene(scene, left) => stack::run_scene(scene, *left),
+        Command::StackScene { scene, version, left } => stack::run_scene(scene, *version, *left),
         Command::Random => timed(|| random::run(options.seed, options.calls)),
         Command::Small => timed(|| small::run(options.depth)),
         Command::Damage => timed(|| damage::run(options.seed, options.count)),

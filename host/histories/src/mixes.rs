@@ -1,13 +1,13 @@
 //! Which call comes next in a random history.
 
-use model::{Book, BLOCK, MOST_FILES};
+use model::{Book, Version, BLOCK, MOST_FILES};
 
 use crate::call::{Call, Lent};
-use crate::history::History;
+use crate::history::{History, MOST_WHOLE};
 use crate::numbers::Numbers;
 
 /// What a history is rich in.
-#[derive(Clone, Copy)]
+#[derive(Clone, Copy, Debug)]
 pub enum Mix {
     /// Many small events that come and go.
     Swarm,
@@ -19,9 +19,11 @@ pub enum Mix {
     Any,
     /// Removals that copy as much as can be.
     Copies,
+    /// Files of as many pieces as their blocks can have, or nearly.
+    Pieces,
 }
 
-pub const MIXES: [Mix; 5] = [Mix::Swarm, Mix::Full, Mix::Many, Mix::Any, Mix::Copies];
+pub const MIXES: [Mix; 6] = [Mix::Swarm, Mix::Full, Mix::Many, Mix::Any, Mix::Copies, Mix::Pieces];
 
 /// The ids that a history uses: few enough to meet again, with those at the ends.
 pub fn ids(numbers: &mut Numbers) -> Vec<u16> {
@@ -64,8 +66,19 @@ fn next_add(mix: Mix, ids: &[u16], book: &Book, numbers: &mut Numbers) -> Call {
         Mix::Full if numbers.one_in(3) => f.max(1),
         Mix::Full | Mix::Copies => numbers.within(1, 1 + f / 2),
         Mix::Any => numbers.within(1, blocks + 1),
+        Mix::Pieces => many_ones(f.max(1), numbers),
     };
     Call::Add { id: next_id(ids, book, numbers), length: n * BLOCK }
+}
+
+/// A number up to the double of some blocks, whose binary digits are all ones, or all but one.
+fn many_ones(blocks: usize, numbers: &mut Numbers) -> usize {
+    let places = numbers.within(1, blocks.ilog2() as usize + 1);
+    let ones = (1 << places) - 1;
+    if numbers.one_in(2) {
+        return ones;
+    }
+    (ones ^ 1 << numbers.within(0, places - 1)).max(1)
 }
 
 /// An id for a new file: mostly one that no line has.
@@ -81,10 +94,14 @@ fn next_id(ids: &[u16], book: &Book, numbers: &mut Numbers) -> u16 {
 /// The file to remove: any, or the one for which most blocks are copied.
 fn next_removal(mix: Mix, held: &[u16], history: &History, numbers: &mut Numbers) -> u16 {
     let (cat, disk) = (history.twin.catalogue(), history.twin.disk(history.blocks));
+    let copies = |id: &u16| model::removal_copies(cat, disk, *id).map_or(0, |copies| copies.len());
     match mix {
-        Mix::Copies if history.blocks <= 600 || numbers.one_in(8) => {
-            let copies = |id: &u16| model::removal_copies(cat, disk, *id).map_or(0, |copies| copies.len());
+        Mix::Copies if history.blocks <= 600 || history.blocks <= MOST_WHOLE && numbers.one_in(8) => {
             *held.iter().max_by_key(|id| copies(id)).expect("a file is there")
+        }
+        Mix::Copies if history.blocks > MOST_WHOLE => {
+            let some = [0; 3].map(|_| numbers.pick(held));
+            some.into_iter().max_by_key(copies).expect("there are three")
         }
         _ => numbers.pick(held),
     }
@@ -114,23 +131,31 @@ pub fn wild_call(ids: &[u16], book: &Book, numbers: &mut Numbers) -> Call {
         _ => numbers.pick(ids),
     };
     let n = book.pages(id) as usize;
-    let pages = numbers.pick(&[1, 2, n, n + 1, f, f + 1]) * BLOCK;
-    let length = numbers.pick(&[0, 1, 511, 513, pages, pages, pages, pages + 1]);
+    let added = wild_length(&[1, 2, n, f, f + 1], numbers);
+    let read = wild_length(&[1, 2, n, n + 1], numbers);
     let first = numbers.pick(&[0, 0, 1, n.saturating_sub(1), n, 65_536]) as u64;
     match numbers.within(0, 9) {
-        0..=2 => Call::Add { id, length },
+        0..=2 => Call::Add { id, length: added },
         3 => Call::Remove { id },
-        4..=6 => Call::Read { id, first: if numbers.one_in(9) { u64::MAX - first } else { first }, length },
+        4..=6 => Call::Read { id, first: if numbers.one_in(9) { u64::MAX - first } else { first }, length: read },
         7 => Call::Breaks { id },
         8 => Call::Free,
         _ => Call::Check,
     }
 }
 
-/// Buffers of which one or both have a wrong length.
-pub fn wrong_lengths(blocks: usize, numbers: &mut Numbers) -> Lent {
-    let Lent { cat, disk } = Lent::right(blocks);
-    let wrong_cat = numbers.pick(&[0, 1, cat - 2, cat - 1, cat + 1, 2 * cat]);
+/// The bytes of some of these pages, or of none, or no multiple of a page.
+fn wild_length(pages: &[usize], numbers: &mut Numbers) -> usize {
+    let bytes = numbers.pick(pages) * BLOCK;
+    numbers.pick(&[0, 1, 511, 513, bytes, bytes, bytes, bytes + 1])
+}
+
+/// Buffers of which one or both have a wrong length. A catalogue may have the length of another version.
+pub fn wrong_lengths(right: Lent, numbers: &mut Numbers) -> Lent {
+    let Lent { cat, disk } = right;
+    let mut cats = vec![0, 1, cat - 2, cat - 1, cat + 1, 2 * cat];
+    cats.extend(Version::ALL.iter().map(|version| version.catalogue).filter(|&other| other != cat));
+    let wrong_cat = numbers.pick(&cats);
     let wrong_disk = numbers.pick(&[0, 1, 511, disk - 512, disk - 1, disk + 1, disk + 512]);
     match numbers.within(0, 4) {
         0 | 1 => Lent { cat: wrong_cat, disk },

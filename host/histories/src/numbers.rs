@@ -38,6 +38,17 @@ impl Numbers {
         from[self.within(0, from.len() - 1)]
     }
 
+    /// The place of one of these, each as likely as its share of all.
+    pub fn pick_by(&mut self, shares: impl Iterator<Item = usize> + Clone) -> usize {
+        let mut left = self.within(1, shares.clone().sum());
+        let taken = |share: usize| {
+            let here = left <= share;
+            left = left.saturating_sub(share);
+            here
+        };
+        shares.map(taken).position(|here| here).unwrap_or(0)
+    }
+
     /// Any number of 2 bytes.
     pub fn field(&mut self) -> u16 {
         self.next() as u16

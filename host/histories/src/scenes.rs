@@ -2,18 +2,21 @@
 
 use std::hint::black_box;
 
-use crate::layouts::staircase;
-use event_disk::{add, breaks, check, format, free, read, remove, Refusal, BLOCK, CATALOGUE};
+use model::{Catalogue, Entry, Version};
+
+use crate::layouts::{most_pairs, staircase};
+use event_disk::{add, breaks, check, format, free, read, remove, Refusal, BLOCK};
 
 /// Bytes that the known scene needs at least.
 pub const KNOWN: usize = 64 * 1024;
 
-/// The names of the scenes: the call that each measures comes first. "none" and "known" test the measurement.
-pub const SCENES: [&str; 18] = [
-    "none",
-    "known",
-    "format-4095",
-    "format-4096",
+/// Scenes that test the measurement.
+pub const TRIALS: [&str; 2] = ["none", "known"];
+
+/// The names of the scenes: the call that each measures comes first.
+pub const SCENES: [&str; 16] = [
+    "format-most-pairs",
+    "format-greatest",
     "add-one-to-empty",
     "add-all",
     "add-64th",
@@ -30,84 +33,110 @@ pub const SCENES: [&str; 18] = [
     "add-not-sound",
 ];
 
-/// A disk with its catalogue.
+/// A disk with its catalogue. The bytes of a long disk take no memory until they are touched.
 struct Disk {
     cat: Vec<u8>,
     disk: Vec<u8>,
 }
 
 impl Disk {
-    fn fresh(blocks: usize) -> Result<Disk, Refusal> {
-        let mut fresh = Disk { cat: vec![0; CATALOGUE], disk: vec![0; blocks * BLOCK] };
+    fn fresh(version: Version, blocks: usize) -> Result<Disk, Refusal> {
+        let mut fresh = Disk { cat: vec![0; version.catalogue], disk: vec![0; blocks * BLOCK] };
         format(&mut fresh.cat, &fresh.disk)?;
         Ok(fresh)
     }
 
-    fn add(mut self, id: u16, pages: usize) -> Result<Disk, Refusal> {
-        add(&mut self.cat, &mut self.disk, id, &vec![1; pages * BLOCK])?;
+    /// A disk with this catalogue, whose files have any pages.
+    fn of(catalogue: &Catalogue) -> Disk {
+        let mut cat = vec![0; catalogue.version.catalogue];
+        model::write(catalogue, &mut cat);
+        Disk { cat, disk: vec![0; catalogue.blocks as usize * BLOCK] }
+    }
+
+    fn removed(mut self, id: u16) -> Result<Disk, Refusal> {
+        remove(&mut self.cat, &mut self.disk, id)?;
         Ok(self)
     }
 
-    /// 63 blocks for each of so many files, on 4,095: with 64 files it has 390 pairs, the most there can be.
-    fn files(count: u16) -> Result<Disk, Refusal> {
-        (1..=count).try_fold(Disk::fresh(4095)?, |disk, id| disk.add(id, 63))
+    /// The disk with the most pairs, the last free one of which is made to share its blocks with a file.
+    fn not_sound(version: Version) -> Disk {
+        let mut catalogue = most_pairs(version);
+        if let Some(last) = catalogue.free.last_mut() {
+            last.first = 0;
+        }
+        Disk::of(&catalogue)
     }
+}
 
-    /// The disk on which the removal of id 1 copies most.
-    fn staircase() -> Disk {
-        let catalogue = staircase(11);
-        let mut cat = vec![0; CATALOGUE];
-        model::write(&catalogue, &mut cat);
-        Disk { cat, disk: vec![0; usize::from(catalogue.blocks) * BLOCK] }
-    }
-
-    /// 64 files, and the last free pair made to share its block with a file.
-    fn not_sound() -> Result<Disk, Refusal> {
-        let mut disk = Disk::files(64)?;
-        let last = disk.cat.iter().rposition(|&byte| byte != 0).unwrap_or(0) - 3;
-        disk.cat[last..last + 2].copy_from_slice(&[0, 0]);
-        Ok(disk)
-    }
+/// The catalogue of a disk that has as many pieces as one can have, and that one file holds.
+fn one_file(version: Version) -> Catalogue {
+    let blocks = version.most_blocks as u32 - 1;
+    let pairs = model::BlockMap::fresh(version, blocks).catalogue().free;
+    Catalogue { version, blocks, entries: vec![Entry { id: 1, blocks, pairs }], free: Vec::new() }
 }
 
 /// A call that is ready to be made.
-type Ready = Box<dyn FnMut()>;
+pub type Ready = Box<dyn FnMut() -> Result<u64, Refusal>>;
 
 /// Lets a prepared disk and a call on it wait for each other.
-fn ready<T>(mut disk: Disk, call: impl Fn(&mut [u8], &mut [u8]) -> T + 'static) -> Result<Ready, Refusal> {
-    Ok(Box::new(move || {
-        black_box(call(&mut disk.cat, &mut disk.disk));
-    }))
+fn ready(
+    mut disk: Disk,
+    call: impl Fn(&mut [u8], &mut [u8]) -> Result<u64, Refusal> + 'static,
+) -> Result<Ready, Refusal> {
+    Ok(Box::new(move || call(&mut disk.cat, &mut disk.disk)))
 }
 
-/// Prepares a scene; nothing if there is none of that name.
-pub fn prepare(name: &str) -> Option<Result<Ready, Refusal>> {
+/// The refusal that the call of a scene gets; the others are answered.
+pub fn refusal(name: &str) -> Option<Refusal> {
+    match name {
+        "add-65th" => Some(Refusal::FilesFull),
+        "check-not-sound" | "add-not-sound" => Some(Refusal::NotSound),
+        _ => None,
+    }
+}
+
+/// Prepares a scene in a version; nothing if there is none of that name.
+pub fn prepare(name: &str, version: Version) -> Option<Result<Ready, Refusal>> {
+    let most = version.most_blocks;
+    let fresh = |blocks| Disk::fresh(version, blocks);
+    let full = || Disk::of(&most_pairs(version));
+    let last = full_files(version);
     let scene = match name {
-        "none" => Ok(Box::new(|| {}) as Ready),
+        "none" => Ok(Box::new(|| Ok(0u64)) as Ready),
         "known" => Ok(Box::new(known) as Ready),
-        "format-4095" => Disk::fresh(4095).and_then(|d| ready(d, |cat, disk| format(cat, disk))),
-        "format-4096" => Disk::fresh(4096).and_then(|d| ready(d, |cat, disk| format(cat, disk))),
-        "breaks-of-64" => Disk::files(64).and_then(|d| ready(d, |cat, _| breaks(cat, 64))),
-        "free-of-64" => Disk::files(64).and_then(|d| ready(d, |cat, _| free(cat))),
-        "check-64" => Disk::files(64).and_then(|d| ready(d, |cat, disk| check(cat, disk))),
-        "check-not-sound" => Disk::not_sound().and_then(|d| ready(d, |cat, disk| check(cat, disk))),
-        "read-all" => Disk::fresh(4095).and_then(|d| reading(d.add(1, 4095)?, 1, 4095)),
-        "read-one-of-64" => Disk::files(64).and_then(|d| reading(d, 64, 63)),
-        "remove-last" => Disk::fresh(4096).and_then(|d| removing(d.add(1, 1)?, 1)),
-        "remove-one-of-64" => Disk::files(64).and_then(|d| removing(d, 1)),
-        "remove-most-copied" => removing(Disk::staircase(), 1),
-        "add-one-to-empty" => Disk::fresh(4096).and_then(|d| adding(d, 1)),
-        "add-all" => Disk::fresh(4095).and_then(|d| adding(d, 4095)),
-        "add-64th" => Disk::files(63).and_then(|d| adding(d, 63)),
-        "add-65th" => Disk::files(64).and_then(|d| adding(d, 1)),
-        "add-not-sound" => Disk::not_sound().and_then(|d| adding(d, 1)),
+        "format-most-pairs" => fresh(most - 1).and_then(|d| ready(d, |cat, disk| format(cat, disk))),
+        "format-greatest" => fresh(most).and_then(|d| ready(d, |cat, disk| format(cat, disk))),
+        "breaks-of-64" => ready(full(), move |cat, _| breaks(cat, last)),
+        "free-of-64" => ready(full(), |cat, _| free(cat)),
+        "check-64" => ready(full(), |cat, disk| check(cat, disk)),
+        "check-not-sound" => ready(Disk::not_sound(version), |cat, disk| check(cat, disk)),
+        "read-all" => reading(Disk::of(&one_file(version)), 1, most - 1),
+        "read-one-of-64" => reading(full(), last, pages_of(version, last)),
+        "remove-last" => removing(Disk::of(&one_file(version)), 1),
+        "remove-one-of-64" => removing(full(), 1),
+        "remove-most-copied" => removing(Disk::of(&staircase(version, u32::from(version.most_height()) - 1)), 1),
+        "add-one-to-empty" => fresh(most).and_then(|d| adding(d, 1)),
+        "add-all" => fresh(most - 1).and_then(|d| adding(d, most - 1)),
+        "add-64th" => full().removed(last).and_then(|d| adding(d, pages_of(version, last))),
+        "add-65th" => adding(full(), 1),
+        "add-not-sound" => adding(Disk::not_sound(version), 1),
         _ => return None,
     };
     Some(scene)
 }
 
+/// The id of the last of 64 files.
+fn full_files(version: Version) -> u16 {
+    most_pairs(version).entries.last().map_or(0, |entry| entry.id)
+}
+
+/// The pages of one of 64 files.
+fn pages_of(version: Version, id: u16) -> usize {
+    most_pairs(version).entry(id).map_or(0, |entry| entry.blocks as usize)
+}
+
 fn adding(disk: Disk, pages: usize) -> Result<Ready, Refusal> {
-    let content = vec![1; pages * BLOCK];
+    let content = vec![0; pages * BLOCK];
     ready(disk, move |cat, disk| add(cat, disk, 65, &content))
 }
 
@@ -118,12 +147,11 @@ fn removing(disk: Disk, id: u16) -> Result<Ready, Refusal> {
 fn reading(disk: Disk, id: u16, pages: usize) -> Result<Ready, Refusal> {
     let Disk { cat, disk } = disk;
     let mut out = vec![0; pages * BLOCK];
-    Ok(Box::new(move || {
-        black_box(read(&cat, &disk, id, 0, &mut out)).ok();
-    }))
+    Ok(Box::new(move || read(&cat, &disk, id, 0, &mut out)))
 }
 
 /// Needs a known number of bytes of stack.
-fn known() {
+fn known() -> Result<u64, Refusal> {
     black_box(&mut [0u8; KNOWN]);
+    Ok(0)
 }

@@ -1,17 +1,20 @@
 //! The buffers of one implementation, and its calls on them.
 
-use model::{Answer, BLOCK, CATALOGUE};
+use std::ops::Range;
+
+use model::{Answer, Version, BLOCK};
 
 use crate::call::{Call, Lent};
 
 /// Bytes before and after a lent buffer, which no call may change.
 pub const GUARD: usize = 61;
 /// The longest catalogue buffer that is lent.
-const LONGEST_CATALOGUE: usize = 2 * CATALOGUE;
+const LONGEST_CATALOGUE: usize = 2 * Version::LARGE.catalogue;
 /// What outputs hold before a read.
 pub const UNREAD: u8 = 0xEE;
 
 /// A buffer within guards.
+#[derive(Default)]
 pub struct Guarded {
     pub bytes: Vec<u8>,
 }
@@ -29,6 +32,16 @@ impl Guarded {
     /// So many bytes from the start, to be changed.
     pub fn lent_mut(&mut self, length: usize) -> &mut [u8] {
         &mut self.bytes[GUARD..GUARD + length]
+    }
+
+    /// These blocks.
+    pub fn blocks(&self, blocks: Range<usize>) -> &[u8] {
+        &self.bytes[GUARD + blocks.start * BLOCK..GUARD + blocks.end * BLOCK]
+    }
+
+    /// The bytes before and after the buffer.
+    pub fn guards(&self) -> [&[u8]; 2] {
+        [&self.bytes[..GUARD], &self.bytes[self.bytes.len() - GUARD..]]
     }
 }
 

@@ -1,14 +1,15 @@
 //! All histories of small disks.
 //!
-//! For each C from 1 to 6 the calls of an alphabet are made in every state that any list of them reaches: a state is
-//! all bytes of catalogue and disk, and the calls have no other memory, so that a state that was met before needs no
-//! second visit. Layer by layer this covers every list of at most so many adds and removes, with looks in between.
+//! In each version and for each C from 1 to 6 the calls of an alphabet are made in every state that any list of them
+//! reaches: a state is all bytes of catalogue and disk, and the calls have no other memory, so that a state that was
+//! met before needs no second visit. Layer by layer this covers every list of at most so many adds and removes, with
+//! looks in between.
 
 use std::collections::{HashMap, HashSet};
 
-use model::BLOCK;
+use model::{Version, BLOCK};
 
-use crate::call::{Call, Lent};
+use crate::call::Call;
 use crate::history::History;
 use crate::numbers::Numbers;
 use crate::tally::Tally;
@@ -45,14 +46,21 @@ struct Search {
 pub fn run(depth: Option<usize>) -> bool {
     println!("all histories of small disks: adds of ids 1 to 3 with n from 1 to C + 1, removes of ids 1 to 3,");
     println!("  and in every state each read, breaks, free, check of ids 0 to 4 and adds of 511 bytes");
+    Version::ALL.into_iter().all(|version| in_version(version, depth))
+}
+
+/// All disks in one version.
+fn in_version(version: Version, depth: Option<usize>) -> bool {
+    println!("  version {}:", version.number);
     let mut all = Tally::default();
     for blocks in 1..=MOST {
         let most = depth.unwrap_or(DEPTHS[blocks - 1]);
-        let mut search = Search::new(blocks);
+        let mut search = Search::new(version, blocks);
         match search.run(most) {
             Ok(reached) => search.print(most, reached),
             Err(difference) => {
-                println!("DIFFERENCE: {blocks} blocks, call {}: {difference}", search.tally.calls);
+                let number = version.number;
+                println!("DIFFERENCE: version {number}, {blocks} blocks, call {}: {difference}", search.tally.calls);
                 return false;
             }
         }
@@ -64,8 +72,8 @@ pub fn run(depth: Option<usize>) -> bool {
 }
 
 impl Search {
-    fn new(blocks: usize) -> Search {
-        let history = History::new(blocks, &mut Numbers::from_seed(blocks as u64));
+    fn new(version: Version, blocks: usize) -> Search {
+        let history = History::new(version, blocks, &mut Numbers::from_seed(blocks as u64));
         let (names, blocks_named) = Default::default();
         Search { history, names, blocks_named, met: HashSet::new(), tally: Tally::default() }
     }
@@ -134,7 +142,7 @@ impl Search {
 
     /// Whether the call was answered. Contents are stamped by id and page, so that equal lines have equal pages.
     fn step(&mut self, call: &Call) -> Result<bool, Difference> {
-        let right = Lent::right(self.history.blocks);
+        let right = self.history.right();
         let told = |difference| format!("{call}: {difference}");
         self.history.step(call, right, 0, &mut self.tally).map_err(told).map(|answer| answer.is_ok())
     }
@@ -156,7 +164,7 @@ impl Search {
     /// Goes back to a state, with the book of a list that leads to it.
     fn load(&mut self, state: &State) -> Result<(), Difference> {
         let mut cat = state.key.0.clone();
-        cat.resize(model::CATALOGUE, 0);
+        cat.resize(self.history.right().cat, 0);
         let disk: Vec<u8> =
             state.key.1.iter().flat_map(|&name| &self.blocks_named[usize::from(name)]).copied().collect();
         let lines = IDS.into_iter().zip(state.lines).filter(|(_, n)| *n > 0);

@@ -7,7 +7,10 @@
 use std::hint::black_box;
 use std::process::Command;
 
-use crate::scenes::{prepare, KNOWN, SCENES};
+use event_disk::Refusal;
+use model::Version;
+
+use crate::scenes::{prepare, refusal, Ready, KNOWN, SCENES, TRIALS};
 
 /// No call may need this much.
 const LIMIT: usize = 256 * 1024;
@@ -16,32 +19,34 @@ const STACK_KIB: usize = 1024;
 /// The least bytes are found up to this.
 const GRAIN: usize = 64;
 
-/// Measures all scenes. False if one needs too much or cannot be measured.
+/// Measures all scenes in each version. False if one needs too much or cannot be measured.
 pub fn run() -> bool {
     println!("stack of each exported call, in bytes; the limit is {LIMIT}");
+    let trials = TRIALS.map(|scene| (scene, Version::SMALL));
+    let calls = Version::ALL.into_iter().flat_map(|version| SCENES.map(|scene| (scene, version)));
     let mut most = 0;
-    for scene in SCENES {
-        match least(scene) {
-            Ok(bytes) => {
-                println!("  {scene:20} {bytes:7}");
-                if !plausible(scene, bytes) {
-                    println!("  the measurement is not right: {scene} cannot need this much");
-                    return false;
-                }
-                most = most.max(if is_call(scene) { bytes } else { 0 });
-            }
+    for (scene, version) in trials.into_iter().chain(calls) {
+        match measure(scene, version) {
+            Ok(bytes) => most = most.max(if TRIALS.contains(&scene) { 0 } else { bytes }),
             Err(reason) => {
-                println!("  {scene}: {reason}");
+                println!("  {scene}, version {}: {reason}", version.number);
                 return false;
             }
         }
     }
     println!("  the most is {most}");
-    most < LIMIT
+    most > 0 && most < LIMIT
 }
 
-fn is_call(scene: &str) -> bool {
-    !matches!(scene, "none" | "known")
+/// Measures one scene, and prints what it needs.
+fn measure(scene: &str, version: Version) -> Result<usize, String> {
+    let bytes = least(scene, version)?;
+    let place = if TRIALS.contains(&scene) { "the measurement".into() } else { format!("version {}", version.number) };
+    println!("  {place:16} {scene:20} {bytes:7}");
+    match plausible(scene, bytes) {
+        true => Ok(bytes),
+        false => Err("the measurement is not right, or this is too much".into()),
+    }
 }
 
 /// What is known beforehand: nothing needs next to nothing, and the known scene as much as it takes.
@@ -54,14 +59,14 @@ fn plausible(scene: &str, bytes: usize) -> bool {
 }
 
 /// The least number of bytes with which a scene goes through.
-fn least(scene: &str) -> Result<usize, String> {
+fn least(scene: &str, version: Version) -> Result<usize, String> {
     let (mut fails, mut passes) = (0, 2 * LIMIT / GRAIN);
-    if !goes_through(scene, passes * GRAIN)? {
+    if !goes_through(scene, version, passes * GRAIN)? {
         return Err(format!("needs more than {} bytes", passes * GRAIN));
     }
     while fails + 1 < passes {
         let middle = (fails + passes) / 2;
-        if goes_through(scene, middle * GRAIN)? {
+        if goes_through(scene, version, middle * GRAIN)? {
             passes = middle;
         } else {
             fails = middle;
@@ -71,13 +76,13 @@ fn least(scene: &str) -> Result<usize, String> {
 }
 
 /// Whether a scene goes through with so many bytes left. The shell sets the limit, and no core is to be written.
-fn goes_through(scene: &str, left: usize) -> Result<bool, String> {
+fn goes_through(scene: &str, version: Version, left: usize) -> Result<bool, String> {
     let program = std::env::current_exe().map_err(|error| error.to_string())?;
     let limit = format!("ulimit -c 0; ulimit -s {STACK_KIB} && exec \"$0\" \"$@\"");
     let output = Command::new("sh")
         .args(["-c", &limit])
         .arg(program)
-        .args(["stack-scene", scene, &left.to_string()])
+        .args(["stack-scene", scene, &version.number.to_string(), &left.to_string()])
         .output()
         .map_err(|error| error.to_string())?;
     match output.status.code() {
@@ -88,8 +93,11 @@ fn goes_through(scene: &str, left: usize) -> Result<bool, String> {
 }
 
 /// Makes the call of a scene with so many bytes of stack left. False if it cannot be tried.
-pub fn run_scene(name: &str, left: usize) -> bool {
-    let scene = match prepare(name) {
+pub fn run_scene(name: &str, version: u16, left: usize) -> bool {
+    let Some(version) = Version::ALL.into_iter().find(|row| row.number == version) else {
+        return fail("is no version");
+    };
+    let scene = match prepare(name, version) {
         Some(Ok(scene)) => scene,
         Some(Err(refusal)) => return fail(&format!("cannot be prepared: {refusal}")),
         None => return fail("is no scene"),
@@ -97,8 +105,8 @@ pub fn run_scene(name: &str, left: usize) -> bool {
     match lowest_address() {
         Some(lowest) => {
             let mut scene = scene;
-            go_down(lowest + left, &mut *scene);
-            true
+            let answer = go_down(lowest + left, &mut scene);
+            answer.err() == refusal(name) || fail(&format!("the call gave {answer:?}"))
         }
         None => fail("the limits of the stack cannot be found in /proc/self"),
     }
@@ -121,12 +129,9 @@ fn lowest_address() -> Option<usize> {
 
 /// Calls itself until the stack has come down to an address, and makes the call there.
 #[inline(never)]
-fn go_down(to: usize, call: &mut dyn FnMut()) {
+fn go_down(to: usize, call: &mut Ready) -> Result<u64, Refusal> {
     let mark = black_box(0u8);
-    if std::ptr::from_ref(&mark).addr() > to {
-        go_down(to, call);
-    } else {
-        call();
-    }
+    let answer = if std::ptr::from_ref(&mark).addr() > to { go_down(to, call) } else { call() };
     black_box(&mark);
+    answer
 }

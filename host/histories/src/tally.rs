@@ -67,6 +67,11 @@ impl Tally {
         self.at_bound
     }
 
+    /// The blocks that removals copied.
+    pub fn copied(&self) -> u64 {
+        self.copied
+    }
+
     /// Calls by kind, and refusals by number.
     pub fn print_calls(&self) {
         let kinds = NAMES.iter().zip(self.kinds).map(|(name, count)| format!("{name} {count}"));

@@ -1,65 +1,49 @@
 //! The proved manager and the second implementation side by side, on buffers of their own.
 
-use model::{Answer, BLOCK, CATALOGUE};
+use model::{Answer, Entry, Version, BLOCK};
 
+use crate::before::Before;
 use crate::call::{Call, Lent};
-use crate::sides::{Side, GUARD, UNREAD};
+use crate::numbers::Numbers;
+use crate::sides::{Guarded, Side, GUARD, UNREAD};
+use crate::touched::Touched;
 
 /// How the two, or a call and the book, differ.
 pub type Difference = String;
 
 /// Both implementations, with equal bytes before and after every call.
 pub struct Twin {
+    pub version: Version,
     proved: Side,
     second: Side,
     before: Before,
-}
-
-/// The bytes of the proved manager before a refused call.
-#[derive(Default)]
-struct Before {
-    cat: Kept,
-    disk: Kept,
-}
-
-/// Bytes that were kept, and whether they have not changed since.
-#[derive(Default)]
-struct Kept {
-    bytes: Vec<u8>,
-    holds: bool,
-}
-
-impl Kept {
-    fn keep(&mut self, bytes: &Vec<u8>) {
-        if !self.holds {
-            self.bytes.clone_from(bytes);
-            self.holds = true;
-        }
-    }
-}
-
-impl Before {
-    fn keep(&mut self, side: &Side) {
-        self.cat.keep(&side.cat.bytes);
-        self.disk.keep(&side.disk.bytes);
-    }
-
-    /// A call is answered that changes the bytes.
-    fn change(&mut self) {
-        self.cat.holds = false;
-        self.disk.holds = false;
-    }
+    /// Where only a part of the disks is compared after a call, that part.
+    touched: Option<Touched>,
 }
 
 impl Twin {
-    /// Both with buffers for at most so many blocks.
-    pub fn new(most_blocks: usize) -> Twin {
-        Twin { proved: Side::new(most_blocks), second: Side::new(most_blocks), before: Default::default() }
+    /// Both with buffers for at most so many blocks; all bytes are compared after every call.
+    pub fn new(version: Version, most_blocks: usize) -> Twin {
+        let (proved, second) = (Side::new(most_blocks), Side::new(most_blocks));
+        Twin { version, proved, second, before: Default::default(), touched: None }
+    }
+
+    /// The same, but of the disks only the blocks of `Touched` are compared after a call.
+    pub fn in_parts(version: Version, most_blocks: usize) -> Twin {
+        Twin { touched: Some(Touched::new(most_blocks)), ..Twin::new(version, most_blocks) }
+    }
+
+    /// Fills the disks with any bytes.
+    pub fn fill_disk(&mut self, blocks: usize, numbers: &mut Numbers) {
+        self.before.disk.forget();
+        let length = blocks * BLOCK;
+        numbers.fill(self.proved.disk.lent_mut(length));
+        self.second.disk.lent_mut(length).copy_from_slice(self.proved.disk.lent(length));
     }
 
     /// Lets both have these bytes at the start of their catalogue.
     pub fn set_catalogue(&mut self, bytes: &[u8]) {
-        self.before.cat.holds = false;
+        self.before.cat.forget();
         for side in [&mut self.proved, &mut self.second] {
             side.cat.lent_mut(bytes.len()).copy_from_slice(bytes);
         }
@@ -67,7 +51,7 @@ impl Twin {
 
     /// Lets both have these bytes at the start of their disk.
     pub fn set_disk(&mut self, bytes: &[u8]) {
-        self.before.disk.holds = false;
+        self.before.disk.forget();
         for side in [&mut self.proved, &mut self.second] {
             side.disk.lent_mut(bytes.len()).copy_from_slice(bytes);
         }
@@ -75,7 +59,7 @@ impl Twin {
 
     /// The catalogue of the proved manager.
     pub fn catalogue(&self) -> &[u8] {
-        self.proved.cat.lent(CATALOGUE)
+        self.proved.cat.lent(self.version.catalogue)
     }
 
     /// The first blocks of the disk of the proved manager.
@@ -88,14 +72,26 @@ impl Twin {
         self.proved.out.lent(length)
     }
 
-    /// Makes a call on both. Answers and all bytes have to be equal, and a refused call must not change any.
+    /// Whether the last call touched a block of this file; of each file if all bytes are compared.
+    pub fn touched(&self, entry: &Entry) -> bool {
+        self.touched.as_ref().is_none_or(|touched| touched.meets(entry))
+    }
+
+    /// Makes a call on both. Answers and all bytes have to be equal, of long disks those of `Touched`, and a refused
+    /// call must not change any.
     pub fn call(&mut self, call: &Call, lent: Lent, content: &[u8]) -> Result<Answer, Difference> {
         for side in [&mut self.proved, &mut self.second] {
             side.clear_output(call.output_length());
         }
+        if let Some(touched) = &mut self.touched {
+            touched.before(call, self.second.cat.lent(lent.cat), self.second.disk.lent(lent.disk));
+        }
         let second = self.second.call_model(call, lent, content);
+        if let Some(touched) = &mut self.touched {
+            touched.after(call, second, self.second.cat.lent(lent.cat));
+        }
         match (call, second) {
-            (_, Err(_)) => self.before.keep(&self.proved),
+            (_, Err(_)) => self.keep(),
             (Call::Format | Call::Add { .. } | Call::Remove { .. }, Ok(_)) => self.before.change(),
             _ => {}
         }
@@ -109,20 +105,59 @@ impl Twin {
         }
     }
 
-    /// All bytes of both, and those before a refused call.
+    /// Changes a block of the proved manager's disk alone, to try whether that is seen.
+    #[cfg(test)]
+    pub fn change_proved(&mut self, block: usize) {
+        self.before.disk.forget();
+        self.proved.disk.bytes[GUARD + block * BLOCK] ^= 1;
+    }
+
+    /// Keeps the bytes before a refused call: of disks that are compared in parts only the catalogue.
+    fn keep(&mut self) {
+        self.before.cat.keep(&self.proved.cat);
+        if self.touched.is_none() {
+            self.before.disk.keep(&self.proved.disk);
+        }
+    }
+
+    /// The bytes of both, and those before a refused call.
     fn compare_bytes(&self, answer: Answer) -> Result<(), Difference> {
         let (proved, second) = (&self.proved, &self.second);
-        compare("catalogue", &proved.cat.bytes, &second.cat.bytes)?;
-        compare("disk", &proved.disk.bytes, &second.disk.bytes)?;
-        compare("output", &proved.out.bytes, &second.out.bytes)?;
-        if answer.is_err() {
-            compare("catalogue of a refused call", &proved.cat.bytes, &self.before.cat.bytes)?;
-            compare("disk of a refused call", &proved.disk.bytes, &self.before.disk.bytes)?;
-            if proved.out.bytes.iter().any(|&byte| byte != UNREAD) {
-                return Err(format!("the output of a call that was {} was changed", told(answer)));
-            }
+        compare("catalogue", &proved.cat, &second.cat)?;
+        compare("output", &proved.out, &second.out)?;
+        match &self.touched {
+            Some(touched) => self.compare_touched(touched)?,
+            None => self.compare_disks()?,
+        }
+        if answer.is_ok() {
+            return Ok(());
+        }
+        compare("catalogue of a refused call", &proved.cat, &self.before.cat.buffer)?;
+        if self.touched.is_none() {
+            compare("disk of a refused call", &proved.disk, &self.before.disk.buffer)?;
+        }
+        match proved.out.bytes.iter().fold(true, |unread, &byte| unread & (byte == UNREAD)) {
+            true => Ok(()),
+            false => Err(format!("the output of a call that was {} was changed", told(answer))),
+        }
+    }
+
+    /// The blocks of the last call, and what stands before and after the disks.
+    fn compare_touched(&self, touched: &Touched) -> Result<(), Difference> {
+        let (proved, second) = (&self.proved.disk, &self.second.disk);
+        for (one, other) in proved.guards().into_iter().zip(second.guards()) {
+            compare_from(0, "guard of the disk", one, other)?;
+        }
+        for blocks in touched.ranges() {
+            let start = (blocks.start * BLOCK) as isize;
+            compare_from(start, "disk", proved.blocks(blocks.clone()), second.blocks(blocks))?;
         }
         Ok(())
+    }
+
+    /// All bytes of the disks.
+    pub fn compare_disks(&self) -> Result<(), Difference> {
+        compare("disk", &self.proved.disk, &self.second.disk)
     }
 }
 
@@ -134,12 +169,17 @@ pub fn told(answer: Answer) -> String {
     }
 }
 
+/// Guarded buffers that are equal, guards and all.
+fn compare(what: &str, one: &Guarded, other: &Guarded) -> Result<(), Difference> {
+    compare_from(-(GUARD as isize), what, &one.bytes, &other.bytes)
+}
+
 /// Equal bytes, or the first place where they are not, counted from the start of the lent buffer.
-fn compare(what: &str, one: &[u8], other: &[u8]) -> Result<(), Difference> {
+fn compare_from(start: isize, what: &str, one: &[u8], other: &[u8]) -> Result<(), Difference> {
     if one == other {
         return Ok(());
     }
     let place = one.iter().zip(other).position(|(a, b)| a != b).unwrap_or(one.len().min(other.len()));
     let (here, there) = (one.get(place), other.get(place));
-    Err(format!("{what}: byte {} is {here:?}, not {there:?}", place as isize - GUARD as isize))
+    Err(format!("{what}: byte {} is {here:?}, not {there:?}", start + place as isize))
 }

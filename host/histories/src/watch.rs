@@ -1,6 +1,6 @@
 //! The book beside the manager: what the one claim about the whole list of calls says at each call.
 
-use model::{Answer, Book, Pair, BLOCK};
+use model::{Answer, Book, Entry, Pair, BLOCK};
 
 use crate::call::Call;
 use crate::twin::{told, Difference, Twin};
@@ -55,8 +55,19 @@ pub fn within_bound(f: u64, n: u64, blocks: u64) -> Result<Copied, Difference> {
 
 /// What holds of catalogue and disk after every list of calls: ids, n, pieces and pages are the book's.
 pub fn compare_state(book: &Book, twin: &Twin) -> Result<(), Difference> {
+    compare_lines(book, twin, |_| true)
+}
+
+/// The same, with the pages of those files only of which the last call touched a block.
+pub fn compare_touched(book: &Book, twin: &Twin) -> Result<(), Difference> {
+    compare_lines(book, twin, |entry| twin.touched(entry))
+}
+
+/// Ids, n and pieces of all lines, and the pages of some.
+fn compare_lines(book: &Book, twin: &Twin, with_pages: impl Fn(&Entry) -> bool) -> Result<(), Difference> {
     let catalogue = model::sound(twin.catalogue()).ok_or("the catalogue is not sound")?;
-    let disk = twin.disk(usize::from(catalogue.blocks));
+    require(catalogue.version == twin.version, || "the version is another".into())?;
+    let disk = twin.disk(catalogue.blocks as usize);
     require(u64::from(catalogue.blocks) == book.check(), || "C is not the book's".into())?;
     let ids = catalogue.entries.iter().map(|e| (e.id, u64::from(e.blocks)));
     require(ids.eq(book.lines().map(|(id, pages)| (id, (pages.len() / BLOCK) as u64))), || {
@@ -66,7 +77,9 @@ pub fn compare_state(book: &Book, twin: &Twin) -> Result<(), Difference> {
         require(entry.pairs.len() as u32 == entry.blocks.count_ones(), || {
             format!("pieces of {id}: not the ones of n")
         })?;
-        require(pages_lie_in(&entry.pairs, pages, disk), || format!("the pieces of {id} do not hold its pages"))?;
+        require(!with_pages(entry) || pages_lie_in(&entry.pairs, pages, disk), || {
+            format!("the pieces of {id} do not hold its pages")
+        })?;
     }
     let free_pieces = catalogue.free.len() as u32;
     require(u64::from(catalogue.free_blocks()) == book.free(), || "f is not the book's".into())?;
@@ -81,7 +94,7 @@ fn pages_lie_in(pairs: &[Pair], pages: &[u8], disk: &[u8]) -> bool {
     pieces.sort_by_key(|piece| std::cmp::Reverse(piece.length));
     let mut rest = pages;
     pieces.iter().all(|piece| {
-        let (start, length) = (usize::from(piece.first) * BLOCK, usize::from(piece.length) * BLOCK);
+        let (start, length) = (piece.first as usize * BLOCK, piece.length as usize * BLOCK);
         match rest.split_at_checked(length) {
             Some((here, later)) => {
                 rest = later;
@@ -93,7 +106,7 @@ fn pages_lie_in(pairs: &[Pair], pages: &[u8], disk: &[u8]) -> bool {
 }
 
 /// Whether each piece starts where the one before ends, from block 0 to C.
-fn tile(mut pieces: Vec<Pair>, blocks: u16) -> bool {
+fn tile(mut pieces: Vec<Pair>, blocks: u32) -> bool {
     pieces.sort_by_key(|piece| piece.first);
     let mut end = 0;
     pieces.iter().all(|piece| {

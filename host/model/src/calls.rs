@@ -1,6 +1,6 @@
 //! The calls on bytes. A call first finds whether it is refused, and for that it only looks at its buffers.
 
-use crate::{sound, write, BlockMap, Catalogue, BLOCK, CATALOGUE, MOST_BLOCKS, MOST_FILES};
+use crate::{sound, write, BlockMap, Catalogue, Version, BLOCK, MOST_FILES};
 
 /// The answer of a call, or the number of its refusal.
 pub type Answer = Result<u64, u8>;
@@ -13,15 +13,20 @@ fn refuse_lowest(conditions: &[(u8, bool)]) -> Result<(), u8> {
     }
 }
 
+/// The version that format makes in a buffer: refusal 1 if no catalogue is as long.
+fn version_for(cat: &[u8]) -> Result<Version, u8> {
+    Version::of_length(cat.len()).ok_or(1)
+}
+
 /// The catalogue in a buffer: refusals 1 and 3.
 fn catalogue_in(cat: &[u8]) -> Result<Catalogue, u8> {
-    refuse_lowest(&[(1, cat.len() != CATALOGUE)])?;
+    version_for(cat)?;
     sound(cat).ok_or(3)
 }
 
 /// Whether the disk buffer is not 512 times the catalogue's C: refusal 4.
 fn wrong_disk(catalogue: &Catalogue, disk: &[u8]) -> bool {
-    disk.len() != BLOCK * usize::from(catalogue.blocks)
+    disk.len() != BLOCK * catalogue.blocks as usize
 }
 
 /// Whether a content or output length is 0 or no multiple of 512: refusal 8.
@@ -31,10 +36,11 @@ fn wrong_length(length: usize) -> bool {
 
 /// Format.
 pub fn format(cat: &mut [u8], disk: &[u8]) -> Answer {
+    let version = version_for(cat)?;
     let blocks = disk.len() / BLOCK;
-    let no_disk = !disk.len().is_multiple_of(BLOCK) || !(1..=MOST_BLOCKS).contains(&blocks);
-    refuse_lowest(&[(1, cat.len() != CATALOGUE), (2, no_disk)])?;
-    write(&BlockMap::fresh(blocks as u16).catalogue(), cat);
+    let no_disk = !disk.len().is_multiple_of(BLOCK) || !(1..=version.most_blocks).contains(&blocks);
+    refuse_lowest(&[(2, no_disk)])?;
+    write(&BlockMap::fresh(version, blocks as u32).catalogue(), cat);
     Ok(blocks as u64)
 }
 
@@ -47,7 +53,7 @@ fn look_for_add(cat: &[u8], disk: &[u8], id: u16, content: &[u8]) -> Result<Bloc
         (7, catalogue.entry(id).is_some()),
         (8, wrong_length(content.len())),
         (10, catalogue.entries.len() == MOST_FILES),
-        (11, content.len() / BLOCK > usize::from(catalogue.free_blocks())),
+        (11, content.len() / BLOCK > catalogue.free_blocks() as usize),
     ])?;
     Ok(BlockMap::of(&catalogue))
 }
@@ -56,7 +62,7 @@ fn look_for_add(cat: &[u8], disk: &[u8], id: u16, content: &[u8]) -> Result<Bloc
 pub fn add(cat: &mut [u8], disk: &mut [u8], id: u16, content: &[u8]) -> Answer {
     let mut map = look_for_add(cat, disk, id, content)?;
     let n = content.len() / BLOCK;
-    map.add(id, n as u16);
+    map.add(id, n as u32);
     for (page, block) in content.chunks_exact(BLOCK).zip(map.pages(id)) {
         disk[block * BLOCK..][..BLOCK].copy_from_slice(page);
     }

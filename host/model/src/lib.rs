@@ -1,4 +1,4 @@
-//! A second implementation of the event disk manager, written from the scope document alone.
+//! A second implementation of the event disk manager, written from the scope document and its requests alone.
 //!
 //! It keeps no list of pieces. A disk is a map from each block to its owner: free, or a page of a file. The catalogue
 //! is derived from that map. The bytes of a catalogue are read by rules that are written apart from the map.
@@ -14,6 +14,7 @@ mod calls;
 mod carry;
 mod moving;
 mod reading;
+mod versions;
 mod writing;
 
 pub use blocks::{BlockMap, Owner};
@@ -21,15 +22,10 @@ pub use book::Book;
 pub use calls::{add, breaks, check, format, free, read, removal_copies, remove, Answer};
 pub use carry::carries;
 pub use reading::{sound, Catalogue, Entry, Pair};
+pub use versions::Version;
 pub use writing::write;
 
 /// The bytes of a block.
 pub const BLOCK: usize = 512;
-/// The bytes of a catalogue.
-pub const CATALOGUE: usize = 4096;
-/// The most blocks of a disk.
-pub const MOST_BLOCKS: usize = 4096;
 /// The most files of a disk.
 pub const MOST_FILES: usize = 64;
-/// The greatest height of a section.
-pub const MOST_HEIGHT: u8 = 12;

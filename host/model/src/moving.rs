@@ -1,7 +1,7 @@
 //! Adding and removing, on the map of blocks.
 
 use crate::blocks::height_of_page;
-use crate::{BlockMap, Owner, MOST_HEIGHT};
+use crate::{BlockMap, Owner};
 
 impl BlockMap {
     /// Makes a block range free as one piece of a height.
@@ -13,10 +13,11 @@ impl BlockMap {
     ///
     /// A piece comes from the least height with a free piece that is not below its own. Of that piece the lowest
     /// blocks are used; splitting has left an upper half at each height in between.
-    pub fn add(&mut self, id: u16, n: u16) {
+    pub fn add(&mut self, id: u16, n: u32) {
+        let most = self.version.most_height();
         let mut page = 0;
-        for height in (0..=MOST_HEIGHT).rev().filter(|&height| n >> height & 1 == 1) {
-            let (first, taken) = (height..=MOST_HEIGHT)
+        for height in (0..=most).rev().filter(|&height| n >> height & 1 == 1) {
+            let (first, taken) = (height..=most)
                 .find_map(|h| self.free_pieces(h).next().map(|first| (first, h)))
                 .expect("n is at most f, so that a piece of this height or above is free");
             for half in height..taken {
@@ -42,7 +43,7 @@ impl BlockMap {
             }
         }
         let mut copies = Vec::new();
-        for height in 0..MOST_HEIGHT {
+        for height in 0..self.version.most_height() {
             while self.merge_lowest_two(height, &mut copies) {}
         }
         copies

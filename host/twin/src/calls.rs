@@ -4,7 +4,7 @@ use crate::disk::{copy_merge, read_pages, write_pages};
 use crate::loading::load;
 use crate::storing::{store, store_fresh};
 use crate::table::{Entry, Table};
-use crate::{BLOCK, CATALOGUE, MOST_BLOCKS, MOST_FILES};
+use crate::{Version, BLOCK, MOST_FILES};
 
 /// The answer of a call, or the number of its refusal.
 pub type Answer = Result<u64, u8>;
@@ -20,8 +20,8 @@ fn refuse_if(condition: bool, number: u8) -> Result<(), u8> {
 
 /// The table of a catalogue: refusals 1 and 3.
 fn open(cat: &[u8]) -> Result<Table, u8> {
-    refuse_if(cat.len() != CATALOGUE, 1)?;
-    load(cat).ok_or(3)
+    let version = Version::of_length(cat.len()).ok_or(1)?;
+    load(cat, version).ok_or(3)
 }
 
 /// Refusals 4 and 5.
@@ -37,10 +37,10 @@ fn check_buffer(length: usize) -> Result<(), u8> {
 
 /// Format.
 pub fn format(cat: &mut [u8], disk: &[u8]) -> Answer {
-    refuse_if(cat.len() != CATALOGUE, 1)?;
+    let version = Version::of_length(cat.len()).ok_or(1)?;
     let blocks = disk.len() / BLOCK;
-    refuse_if(!disk.len().is_multiple_of(BLOCK) || !(1..=MOST_BLOCKS).contains(&blocks), 2)?;
-    store_fresh(cat, blocks as u32);
+    refuse_if(!disk.len().is_multiple_of(BLOCK) || !(1..=version.most_blocks).contains(&blocks), 2)?;
+    store_fresh(cat, version, blocks as u32);
     Ok(blocks as u64)
 }
 

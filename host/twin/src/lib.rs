@@ -14,18 +14,16 @@ mod pieces;
 mod section;
 mod storing;
 mod table;
+mod version;
 
 pub use calls::{add, breaks, check, format, free, read, remove, Answer};
+pub use version::Version;
 
 /// The bytes of a block.
 pub const BLOCK: usize = 512;
-/// The bytes of a catalogue.
-pub const CATALOGUE: usize = 4096;
-/// The most blocks of a disk.
-pub const MOST_BLOCKS: usize = 4096;
 /// The most files of a disk.
 pub const MOST_FILES: usize = 64;
-/// The greatest height of a section.
-const MOST_HEIGHT: u32 = 12;
-/// The version that a catalogue starts with.
-const VERSION: u32 = 1;
+/// The greatest height of a section in any version.
+const MOST_HEIGHT: u32 = Version::LARGE.most_blocks.ilog2();
+/// The most pieces of a file, and of the free blocks: one of each height.
+const MOST_OF_ONE: usize = MOST_HEIGHT as usize + 1;

@@ -3,29 +3,46 @@
 use crate::pieces::Pieces;
 use crate::section::Section;
 use crate::table::{Entry, Table};
-use crate::{CATALOGUE, MOST_BLOCKS, MOST_FILES, VERSION};
+use crate::{Version, MOST_FILES, MOST_OF_ONE};
 
-/// The most pieces of a table: 13 for each file and for the free blocks.
-const MOST_PIECES: usize = 13 * (MOST_FILES + 1);
+/// The most pieces of a table: those of each file and of the free blocks.
+const MOST_PIECES: usize = MOST_OF_ONE * (MOST_FILES + 1);
 
-/// The bytes that are left, of which fields of 2 bytes are read from the front.
+/// The bytes that are left, of which fields are read from the front, and the bytes of a number of blocks.
 struct Fields<'a> {
     rest: &'a [u8],
+    width: usize,
 }
 
 impl Fields<'_> {
-    fn field(&mut self) -> Option<u32> {
+    fn field<const BYTES: usize>(&mut self) -> Option<[u8; BYTES]> {
         let (field, rest) = self.rest.split_first_chunk()?;
         self.rest = rest;
-        Some(u16::from_be_bytes(*field).into())
+        Some(*field)
     }
 
-    /// One pair for each 1 of n.
+    /// A field of 2 bytes in every version.
+    fn short(&mut self) -> Option<u32> {
+        Some(u16::from_be_bytes(self.field()?).into())
+    }
+
+    /// A number of blocks, in the bytes that the version has for it.
+    fn blocks(&mut self) -> Option<u32> {
+        match self.width {
+            2 => self.short(),
+            _ => Some(u32::from_be_bytes(self.field()?)),
+        }
+    }
+
+    /// One pair for each 1 of n, if a sound layout can have so many.
     fn pairs<const PLACES: usize>(&mut self, n: u32) -> Option<Pieces<PLACES>> {
         let count = n.count_ones() as usize;
+        if count > MOST_OF_ONE {
+            return None;
+        }
         let mut pieces = Pieces::NONE;
         for _ in 0..count {
-            let (first, length) = (self.field()?, self.field()?);
+            let (first, length) = (self.blocks()?, self.blocks()?);
             pieces.push(Section::of_pair(first, length)?);
         }
         Some(pieces)
@@ -33,8 +50,8 @@ impl Fields<'_> {
 
     /// A file's entry, if it is one that a sound layout can have, with its n.
     fn entry(&mut self) -> Option<(Entry, u32)> {
-        let (id, n) = (self.field()?, self.field()?);
-        if id == 0 || n == 0 || n > MOST_BLOCKS as u32 {
+        let (id, n) = (self.short()?, self.blocks()?);
+        if id == 0 || n == 0 {
             return None;
         }
         let mut pieces = self.pairs(n)?;
@@ -46,16 +63,16 @@ impl Fields<'_> {
     }
 }
 
-/// The table of a catalogue of 4,096 bytes, if it is sound.
-pub fn load(cat: &[u8]) -> Option<Table> {
-    debug_assert_eq!(cat.len(), CATALOGUE);
-    let mut fields = Fields { rest: cat };
-    let (version, blocks, count) = (fields.field()?, fields.field()?, fields.field()?);
-    let in_limits = version == VERSION && (1..=MOST_BLOCKS as u32).contains(&blocks) && count <= MOST_FILES as u32;
-    if !in_limits {
+/// The table of a catalogue of the version's length, if it is sound.
+pub fn load(cat: &[u8], version: Version) -> Option<Table> {
+    debug_assert_eq!(cat.len(), version.catalogue);
+    let mut fields = Fields { rest: cat, width: version.field };
+    let (number, blocks, count) = (fields.short()?, fields.blocks()?, fields.short()?);
+    let has_blocks = (1..=version.most_blocks as u32).contains(&blocks);
+    if number != u32::from(version.number) || !has_blocks || count > MOST_FILES as u32 {
         return None;
     }
-    let mut table = Table::of_blocks(blocks);
+    let mut table = Table::of_blocks(version, blocks);
     let mut free = blocks;
     for _ in 0..count {
         let (entry, n) = fields.entry()?;
@@ -93,8 +110,8 @@ fn gather<'a>(table: &Table, places: &'a mut [Section; MOST_PIECES]) -> &'a [Sec
     &places[..count]
 }
 
-/// Whether some two pieces, all aligned, share a block: their first blocks differ only below the bit of the longer one's
-/// length. It ends at the first two that do.
+/// Whether some two pieces, all aligned, share a block: their first blocks differ only below the bit of the longer
+/// one's length. It ends at the first two that do.
 fn any_shared(pieces: &[Section]) -> bool {
     let mut masks = [0; MOST_PIECES];
     for (mask, piece) in masks.iter_mut().zip(pieces) {

@@ -10,7 +10,7 @@ pub struct Section {
 }
 
 impl Section {
-    /// The section of a pair, if its length is one of 1, 2, 4 up to 4,096.
+    /// The section of a pair, if its length is one of 1, 2, 4 up to that of the greatest height.
     pub fn of_pair(first: u32, length: u32) -> Option<Section> {
         let is_length = length.is_power_of_two() && length <= 1 << MOST_HEIGHT;
         is_length.then(|| Section { first, height: length.trailing_zeros() })
@@ -25,9 +25,11 @@ impl Section {
         self.first + self.length()
     }
 
-    /// Whether the first block is a multiple of the length, and the end within the disk.
+    /// Whether the first block is a multiple of the length, and the end within the disk. The first block may be any
+    /// number of 4 bytes, to which the length cannot be added.
     pub fn is_on_disk(self, blocks: u32) -> bool {
-        self.end() <= blocks && self.first & (self.length() - 1) == 0
+        let length = self.length();
+        length <= blocks && self.first <= blocks - length && self.first & (length - 1) == 0
     }
 
     pub fn buddy(self) -> Section {

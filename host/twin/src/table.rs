@@ -2,7 +2,7 @@
 
 use crate::pieces::{FilePieces, FreePieces};
 use crate::section::Section;
-use crate::{MOST_FILES, MOST_HEIGHT};
+use crate::{Version, MOST_FILES, MOST_HEIGHT};
 
 /// A file: its id, and its pieces in page order.
 #[derive(Clone, Copy, Debug)]
@@ -11,9 +11,10 @@ pub struct Entry {
     pub pieces: FilePieces,
 }
 
-/// The disk's blocks, the first `count` files, and the free pieces.
+/// The version that the table is stored in, the disk's blocks, the first `count` files, and the free pieces.
 #[derive(Clone, Debug)]
 pub struct Table {
+    pub version: Version,
     pub blocks: u32,
     count: usize,
     files: [Entry; MOST_FILES],
@@ -22,9 +23,9 @@ pub struct Table {
 
 impl Table {
     /// The table of a disk with no file and no free piece.
-    pub fn of_blocks(blocks: u32) -> Table {
+    pub fn of_blocks(version: Version, blocks: u32) -> Table {
         let blank = Entry { id: 0, pieces: FilePieces::NONE };
-        Table { blocks, count: 0, files: [blank; MOST_FILES], free: FreePieces::NONE }
+        Table { version, blocks, count: 0, files: [blank; MOST_FILES], free: FreePieces::NONE }
     }
 
     /// The free pieces of a fresh disk: one for each 1 of C, longest first from block 0.

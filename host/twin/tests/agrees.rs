@@ -1,77 +1,11 @@
-//! Random histories: the twin's answers and all its bytes beside those of the proved manager.
+//! Random histories, damage and limits: the twin's answers and all its bytes beside those of the proved manager.
+
+mod sides;
 
 use event_disk::Refusal;
-use twin::{BLOCK, CATALOGUE};
-
-/// A generator of numbers: a counter whose bits are mixed.
-struct Numbers(u64);
-
-impl Numbers {
-    fn next(&mut self) -> u64 {
-        self.0 = self.0.wrapping_add(0x9e37_79b9_7f4a_7c15);
-        let mut x = self.0;
-        x = (x ^ (x >> 30)).wrapping_mul(0xbf58_476d_1ce4_e5b9);
-        x = (x ^ (x >> 27)).wrapping_mul(0x94d0_49bb_1331_11eb);
-        x ^ (x >> 31)
-    }
-
-    fn below(&mut self, end: usize) -> usize {
-        (self.next() % end as u64) as usize
-    }
-}
-
-/// A catalogue, a disk and an output.
-#[derive(Clone, PartialEq)]
-struct Buffers {
-    cat: Vec<u8>,
-    disk: Vec<u8>,
-    out: Vec<u8>,
-}
-
-/// A call with its arguments.
-#[derive(Debug)]
-enum Call {
-    Format,
-    Add(u16, Vec<u8>),
-    Remove(u16),
-    Read(u16, u64),
-    Breaks(u16),
-    Free,
-    Check,
-}
-
-fn on_proved(call: &Call, b: &mut Buffers) -> Result<u64, u8> {
-    let answer = match call {
-        Call::Format => event_disk::format(&mut b.cat, &b.disk),
-        Call::Add(id, content) => event_disk::add(&mut b.cat, &mut b.disk, *id, content),
-        Call::Remove(id) => event_disk::remove(&mut b.cat, &mut b.disk, *id),
-        Call::Read(id, first) => event_disk::read(&b.cat, &b.disk, *id, *first, &mut b.out),
-        Call::Breaks(id) => event_disk::breaks(&b.cat, *id),
-        Call::Free => event_disk::free(&b.cat),
-        Call::Check => event_disk::check(&b.cat, &b.disk),
-    };
-    answer.map_err(Refusal::number)
-}
-
-fn on_twin(call: &Call, b: &mut Buffers) -> Result<u64, u8> {
-    match call {
-        Call::Format => twin::format(&mut b.cat, &b.disk),
-        Call::Add(id, content) => twin::add(&mut b.cat, &mut b.disk, *id, content),
-        Call::Remove(id) => twin::remove(&mut b.cat, &mut b.disk, *id),
-        Call::Read(id, first) => twin::read(&b.cat, &b.disk, *id, *first, &mut b.out),
-        Call::Breaks(id) => twin::breaks(&b.cat, *id),
-        Call::Free => twin::free(&b.cat),
-        Call::Check => twin::check(&b.cat, &b.disk),
-    }
-}
-
-/// Makes one call on both, and answers what both answered.
-fn agree(call: &Call, proved: &mut Buffers, twin: &mut Buffers) -> Result<u64, u8> {
-    let answer = on_proved(call, proved);
-    assert_eq!(on_twin(call, twin), answer, "{call:?}");
-    assert!(proved == twin, "the bytes after {call:?}");
-    answer
-}
+use sides::numbers::Numbers;
+use sides::{agree, Buffers, Call};
+use twin::{Version, BLOCK};
 
 /// A buffer's length: mostly pages, now and then with a byte more.
 fn buffer_length(numbers: &mut Numbers, pages: usize) -> usize {
@@ -94,58 +28,127 @@ fn any_call(numbers: &mut Numbers, ids: usize, pages: usize) -> Call {
     }
 }
 
+/// A disk with its version and blocks, and the calls on it: ids below `ids`, contents up to `pages`.
+struct Plan {
+    version: Version,
+    blocks: usize,
+    ids: usize,
+    pages: usize,
+    calls: usize,
+}
+
 /// A history on a fresh disk. The output has another length before each call.
-fn history(seed: u64, blocks: usize, ids: usize, pages: usize, calls: usize) {
+fn history(seed: u64, plan: Plan) {
     let numbers = &mut Numbers(seed);
-    let mut proved = Buffers { cat: vec![7; CATALOGUE], disk: vec![9; blocks * BLOCK], out: Vec::new() };
+    let (cat, disk) = (vec![7; plan.version.catalogue], vec![9; plan.blocks * BLOCK]);
+    let mut proved = Buffers { cat, disk, out: Vec::new() };
     let mut twin = proved.clone();
-    assert_eq!(agree(&Call::Format, &mut proved, &mut twin), Ok(blocks as u64));
+    assert_eq!(agree(&Call::Format, &mut proved, &mut twin), Ok(plan.blocks as u64));
     let mut answered = 0;
-    for _ in 0..calls {
+    for _ in 0..plan.calls {
         let out = vec![1; buffer_length(numbers, 4)];
         (proved.out, twin.out) = (out.clone(), out);
-        let call = any_call(numbers, ids, pages);
+        let call = any_call(numbers, plan.ids, plan.pages);
         answered += usize::from(agree(&call, &mut proved, &mut twin).is_ok());
     }
-    assert!(answered > calls / 8, "only {answered} of {calls} calls were answered");
+    assert!(answered > plan.calls / 8, "only {answered} of {} calls were answered", plan.calls);
 }
 
 #[test]
 fn on_histories_of_calls() {
-    for (seed, blocks) in [1, 2, 3, 5, 16, 100, 261].into_iter().enumerate() {
-        history(seed as u64, blocks, 12, blocks.div_ceil(3), 1000);
+    for version in Version::ALL {
+        for (seed, blocks) in [1, 2, 3, 5, 16, 100, 261].into_iter().enumerate() {
+            history(seed as u64, Plan { version, blocks, ids: 12, pages: blocks.div_ceil(3), calls: 1000 });
+        }
+        history(50, Plan { version, blocks: 261, ids: 80, pages: 7, calls: 2000 });
+        history(51, Plan { version, blocks: 4095, ids: 70, pages: 130, calls: 1500 });
+        history(52, Plan { version, blocks: 4096, ids: 10, pages: 1100, calls: 200 });
     }
-    history(50, 261, 80, 7, 2000);
-    history(51, 4095, 70, 130, 1500);
-    history(52, 4096, 10, 1100, 200);
 }
 
-/// Catalogues with some of their bytes changed: mostly not sound, and refused by both.
 #[test]
-fn on_damaged_catalogues() {
-    let numbers = &mut Numbers(77);
-    let mut whole = Buffers { cat: vec![0; CATALOGUE], disk: vec![0; 100 * BLOCK], out: vec![0; BLOCK] };
+fn on_histories_of_large_disks() {
+    let version = Version::LARGE;
+    history(60, Plan { version, blocks: 4097, ids: 70, pages: 130, calls: 600 });
+    history(61, Plan { version, blocks: 5000, ids: 12, pages: 1100, calls: 300 });
+    history(62, Plan { version, blocks: 65_537, ids: 12, pages: 20_000, calls: 60 });
+}
+
+/// A disk of 100 blocks with five files.
+fn five_files(version: Version, numbers: &mut Numbers) -> Buffers {
+    let mut whole = Buffers { cat: vec![0; version.catalogue], disk: vec![0; 100 * BLOCK], out: vec![0; BLOCK] };
     twin::format(&mut whole.cat, &whole.disk).unwrap();
     for id in [3, 5, 8, 11, 300] {
         let content = vec![id as u8; BLOCK * (1 + numbers.below(20))];
         twin::add(&mut whole.cat, &mut whole.disk, id, &content).unwrap();
     }
-    for _ in 0..5000 {
-        let mut proved = whole.clone();
-        for _ in 0..1 + numbers.below(2) {
-            let at = if numbers.below(10) == 0 { numbers.below(CATALOGUE) } else { numbers.below(120) };
-            proved.cat[at] = if numbers.below(2) == 0 { numbers.below(9) as u8 } else { numbers.next() as u8 };
+    whole
+}
+
+/// Catalogues with some of their bytes changed: mostly not sound, and refused by both.
+#[test]
+fn on_damaged_catalogues() {
+    for version in Version::ALL {
+        let numbers = &mut Numbers(77);
+        let whole = five_files(version, numbers);
+        let used = 60 * version.field;
+        for _ in 0..5000 {
+            let mut proved = whole.clone();
+            for _ in 0..1 + numbers.below(2) {
+                let at = if numbers.below(10) == 0 { numbers.below(version.catalogue) } else { numbers.below(used) };
+                proved.cat[at] = if numbers.below(2) == 0 { numbers.below(9) as u8 } else { numbers.next() as u8 };
+            }
+            let mut twin = proved.clone();
+            let call = any_call(numbers, 12, 20);
+            let _ = agree(&call, &mut proved, &mut twin);
         }
-        let mut twin = proved.clone();
-        let call = any_call(numbers, 12, 20);
-        let _ = agree(&call, &mut proved, &mut twin);
+    }
+}
+
+/// Numbers at the ends of 4 bytes and of the greatest disk, in the place of each number of a catalogue.
+#[test]
+fn on_fields_at_their_ends() {
+    let whole = five_files(Version::LARGE, &mut Numbers(78));
+    for at in (0..240).step_by(2) {
+        for number in [0, 1, 0x000f_ffff, 0x0010_0000, 0x0020_0000, 0x8000_0000, 0xffff_f800, u32::MAX] {
+            let mut proved = whole.clone();
+            proved.cat[at..at + 4].copy_from_slice(&number.to_be_bytes());
+            let mut twin = proved.clone();
+            let _ = agree(&Call::Free, &mut proved, &mut twin);
+            let _ = agree(&Call::Remove(5), &mut proved, &mut twin);
+        }
+    }
+}
+
+/// 64 files of n blocks each, whose sum has more than 4 bytes. Each has a pair for each 1 of n, as far as the
+/// catalogue reaches.
+#[test]
+fn on_64_files_of_far_too_many_blocks() {
+    let version = Version::LARGE;
+    let most = version.most_blocks as u32;
+    for n in [u32::MAX, u32::MAX - 63, 0xffff_f800, 0x8000_0000, 0x0400_0000] {
+        for pair in [[0, most], [u32::MAX, 1], [u32::MAX - 1, 0x8000_0000]] {
+            let mut cat = [&version.number.to_be_bytes()[..], &most.to_be_bytes(), &64u16.to_be_bytes()].concat();
+            for id in 1..=64u16 {
+                cat.extend(id.to_be_bytes());
+                cat.extend(n.to_be_bytes());
+                cat.extend(pair.map(u32::to_be_bytes).concat().repeat(n.count_ones() as usize));
+            }
+            cat.resize(version.catalogue, 0);
+            let mut proved = Buffers { cat, disk: vec![0; 100 * BLOCK], out: Vec::new() };
+            let mut twin = proved.clone();
+            for call in [Call::Free, Call::Breaks(64), Call::Remove(1), Call::Add(65, vec![0; BLOCK])] {
+                assert_eq!(agree(&call, &mut proved, &mut twin), Err(3));
+            }
+        }
     }
 }
 
 #[test]
 fn on_buffers_of_other_lengths() {
-    for cat in [0, CATALOGUE - 1, CATALOGUE, CATALOGUE + 1] {
-        for disk in [0, 1, BLOCK, 2 * BLOCK + 1, 16 * BLOCK, 4096 * BLOCK, 4097 * BLOCK] {
+    let (most, lengths) = (Version::SMALL.most_blocks, Version::ALL.map(|version| version.catalogue));
+    for cat in lengths.into_iter().flat_map(|length| [length - 1, length, length + 1]).chain([0, 8192]) {
+        for disk in [0, 1, BLOCK, 2 * BLOCK + 1, 16 * BLOCK, most * BLOCK, (most + 1) * BLOCK] {
             let mut proved = Buffers { cat: vec![0; cat], disk: vec![0; disk], out: vec![0; BLOCK] };
             let mut twin = proved.clone();
             let calls = [Call::Check, Call::Format, Call::Check, Call::Add(1, vec![5; BLOCK]), Call::Free];
@@ -157,6 +160,35 @@ fn on_buffers_of_other_lengths() {
             for call in [Call::Check, Call::Remove(1), Call::Add(2, vec![5; BLOCK]), Call::Read(1, 0)] {
                 let _ = agree(&call, &mut proved, &mut twin);
             }
+        }
+    }
+}
+
+/// Disks of zero bytes take no memory: format and check only look at their length.
+#[test]
+fn on_the_greatest_disks() {
+    for version in Version::ALL {
+        for blocks in [version.most_blocks - 1, version.most_blocks, version.most_blocks + 1] {
+            let (disk, mut proved) = (vec![0; blocks * BLOCK], vec![7; version.catalogue]);
+            let mut twin = proved.clone();
+            assert_eq!(twin::format(&mut twin, &disk), event_disk::format(&mut proved, &disk).map_err(Refusal::number));
+            assert_eq!(twin, proved, "{blocks} blocks");
+            assert_eq!(twin::check(&twin, &disk), event_disk::check(&proved, &disk).map_err(Refusal::number));
+        }
+    }
+}
+
+/// The number of another version, or of none, in a catalogue that is sound but for that.
+#[test]
+fn on_versions_that_do_not_suit_their_buffer() {
+    for version in Version::ALL {
+        let whole = five_files(version, &mut Numbers(79));
+        for number in (0..=4).filter(|&number| number != version.number) {
+            let mut proved = whole.clone();
+            proved.cat[..2].copy_from_slice(&number.to_be_bytes());
+            let mut twin = proved.clone();
+            assert_eq!(agree(&Call::Check, &mut proved, &mut twin), Err(3));
+            assert_eq!(agree(&Call::Remove(5), &mut proved, &mut twin), Err(3));
         }
     }
 }

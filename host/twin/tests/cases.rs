@@ -1,28 +1,49 @@
-//! The hand cases of the scope document, on the twin.
+//! The hand cases of the scope document, on the twin, in every version.
 
-use twin::{add, breaks, check, format, free, read, remove, BLOCK, CATALOGUE};
+use twin::{add, breaks, check, format, free, read, remove, Version, BLOCK};
 
-/// A catalogue and a disk.
+/// First block and length.
+type Pair = (u32, u32);
+
+/// A catalogue with its version, and a disk.
 struct Station {
+    version: Version,
     cat: Vec<u8>,
     disk: Vec<u8>,
 }
 
-/// The bytes of a catalogue with these fields, and zero bytes to the end.
-fn bytes_of(fields: &[u16]) -> Vec<u8> {
-    let mut bytes: Vec<u8> = fields.iter().flat_map(|field| field.to_be_bytes()).collect();
-    bytes.resize(CATALOGUE, 0);
+/// The bytes of a number, by the version.
+fn field(version: Version, number: u32) -> Vec<u8> {
+    number.to_be_bytes()[4 - version.field..].to_vec()
+}
+
+fn pairs_bytes(version: Version, pairs: &[Pair]) -> Vec<u8> {
+    pairs.iter().flat_map(|&(first, length)| [field(version, first), field(version, length)].concat()).collect()
+}
+
+/// The bytes of a catalogue: header, files with their pairs, free pairs, and zero bytes to the end.
+fn bytes_of(version: Version, blocks: usize, files: &[(u16, &[Pair])], free: &[Pair]) -> Vec<u8> {
+    let mut bytes = version.number.to_be_bytes().to_vec();
+    bytes.extend(field(version, blocks as u32));
+    bytes.extend((files.len() as u16).to_be_bytes());
+    for (id, pairs) in files {
+        bytes.extend(id.to_be_bytes());
+        bytes.extend(field(version, pairs.iter().map(|pair| pair.1).sum()));
+        bytes.extend(pairs_bytes(version, pairs));
+    }
+    bytes.extend(pairs_bytes(version, free));
+    bytes.resize(version.catalogue, 0);
     bytes
 }
 
 /// The content of a file: each page is filled with its own number.
 fn content(id: u16, pages: usize) -> Vec<u8> {
-    (0..pages).flat_map(|page| [id as u8 * 16 + page as u8; BLOCK]).collect()
+    (0..pages).flat_map(|page| [(16 * id + page as u16) as u8; BLOCK]).collect()
 }
 
 impl Station {
-    fn fresh(blocks: usize) -> Station {
-        let mut station = Station { cat: vec![0xaa; CATALOGUE], disk: vec![0xbb; blocks * BLOCK] };
+    fn fresh(version: Version, blocks: usize) -> Station {
+        let mut station = Station { version, cat: vec![0xaa; version.catalogue], disk: vec![0xbb; blocks * BLOCK] };
         assert_eq!(format(&mut station.cat, &station.disk), Ok(blocks as u64));
         station
     }
@@ -44,72 +65,118 @@ impl Station {
         out
     }
 
-    fn has(self, fields: &[u16]) -> Station {
-        assert_eq!(self.cat, bytes_of(fields));
+    fn has(self, files: &[(u16, &[Pair])], free: &[Pair]) -> Station {
+        assert_eq!(self.cat, bytes_of(self.version, self.disk.len() / BLOCK, files, free));
         self
     }
 }
 
 #[test]
 fn cases_1_to_3_are_fresh_disks() {
-    Station::fresh(1).has(&[1, 1, 0, 0, 1]);
-    Station::fresh(5).has(&[1, 5, 0, 0, 4, 4, 1]);
-    Station::fresh(261).has(&[1, 261, 0, 0, 256, 256, 4, 260, 1]);
+    for version in Version::ALL {
+        Station::fresh(version, 1).has(&[], &[(0, 1)]);
+        Station::fresh(version, 5).has(&[], &[(0, 4), (4, 1)]);
+        Station::fresh(version, 261).has(&[], &[(0, 256), (256, 4), (260, 1)]);
+    }
 }
 
-fn case_6() -> Station {
-    let four = Station::fresh(16).with(5, 3).has(&[1, 16, 1, 5, 3, 0, 2, 2, 1, 3, 1, 4, 4, 8, 8]);
-    let five = four.with(9, 1).has(&[1, 16, 2, 5, 3, 0, 2, 2, 1, 9, 1, 3, 1, 4, 4, 8, 8]);
-    five.with(2, 2).has(&[1, 16, 3, 2, 2, 4, 2, 5, 3, 0, 2, 2, 1, 9, 1, 3, 1, 6, 2, 8, 8])
+fn case_6(version: Version) -> Station {
+    let four = Station::fresh(version, 16).with(5, 3).has(&[(5, &[(0, 2), (2, 1)])], &[(3, 1), (4, 4), (8, 8)]);
+    let five = four.with(9, 1).has(&[(5, &[(0, 2), (2, 1)]), (9, &[(3, 1)])], &[(4, 4), (8, 8)]);
+    five.with(2, 2).has(&[(2, &[(4, 2)]), (5, &[(0, 2), (2, 1)]), (9, &[(3, 1)])], &[(6, 2), (8, 8)])
 }
 
 #[test]
 fn cases_4_to_7_add_three_files_and_remove_one() {
-    let seven = case_6().without(5, 2).has(&[1, 16, 2, 2, 2, 4, 2, 9, 1, 7, 1, 0, 4, 6, 1, 8, 8]);
-    assert_eq!(seven.pages(9, 1), content(9, 1));
-    assert_eq!(seven.pages(2, 2), content(2, 2));
-    assert_eq!(free(&seven.cat), Ok(13));
-    assert_eq!(check(&seven.cat, &seven.disk), Ok(16));
+    for version in Version::ALL {
+        let seven = case_6(version).without(5, 2);
+        let seven = seven.has(&[(2, &[(4, 2)]), (9, &[(7, 1)])], &[(0, 4), (6, 1), (8, 8)]);
+        assert_eq!(seven.pages(9, 1), content(9, 1));
+        assert_eq!(seven.pages(2, 2), content(2, 2));
+        assert_eq!(free(&seven.cat), Ok(13));
+        assert_eq!(check(&seven.cat, &seven.disk), Ok(16));
+    }
 }
 
 #[test]
 fn case_8_fills_the_disk() {
-    let eight = case_6().with(7, 10);
-    assert_eq!(free(&eight.cat), Ok(0));
-    assert_eq!(breaks(&eight.cat, 7), Ok(1));
-    let mut six = case_6();
-    assert_eq!(add(&mut six.cat, &mut six.disk, 7, &content(7, 11)), Err(11));
+    for version in Version::ALL {
+        let eight = case_6(version).with(7, 10);
+        assert_eq!(free(&eight.cat), Ok(0));
+        assert_eq!(breaks(&eight.cat, 7), Ok(1));
+        let mut six = case_6(version);
+        assert_eq!(add(&mut six.cat, &mut six.disk, 7, &content(7, 11)), Err(11));
+    }
 }
 
 #[test]
 fn case_9_merges_buddies_without_a_copy() {
-    Station::fresh(2).with(1, 1).without(1, 0).has(&[1, 2, 0, 0, 2]);
+    for version in Version::ALL {
+        Station::fresh(version, 2).with(1, 1).without(1, 0).has(&[], &[(0, 2)]);
+    }
 }
 
 #[test]
 fn case_10_has_no_buddy_past_the_end() {
-    let ten = Station::fresh(5).with(1, 1).with(2, 1).without(1, 1).has(&[1, 5, 1, 2, 1, 4, 1, 0, 4]);
-    assert_eq!(ten.pages(2, 1), content(2, 1));
+    for version in Version::ALL {
+        let ten = Station::fresh(version, 5).with(1, 1).with(2, 1).without(1, 1).has(&[(2, &[(4, 1)])], &[(0, 4)]);
+        assert_eq!(ten.pages(2, 1), content(2, 1));
+    }
 }
 
 #[test]
 fn case_11_is_the_deletion_of_the_paper() {
-    let cat = bytes_of(&[1, 16, 3, 1, 1, 13, 1, 2, 7, 0, 4, 4, 2, 6, 1, 3, 5, 8, 4, 12, 1, 7, 1, 14, 2]);
-    let disk = (0..16).flat_map(|block| [block; BLOCK]).collect();
-    let eleven = Station { cat, disk }.without(1, 3);
-    let eleven = eleven.has(&[1, 16, 2, 2, 7, 0, 4, 13, 1, 14, 2, 3, 5, 8, 4, 12, 1, 4, 4]);
-    let pages: Vec<u8> = (0..7).flat_map(|page| [page; BLOCK]).collect();
-    assert_eq!(eleven.pages(2, 7), pages);
+    for version in Version::ALL {
+        let files: [(u16, &[Pair]); 3] = [(1, &[(13, 1)]), (2, &[(0, 4), (4, 2), (6, 1)]), (3, &[(8, 4), (12, 1)])];
+        let cat = bytes_of(version, 16, &files, &[(7, 1), (14, 2)]);
+        let disk = (0..16).flat_map(|block| [block; BLOCK]).collect();
+        let eleven = Station { version, cat, disk }.without(1, 3);
+        let eleven = eleven.has(&[(2, &[(0, 4), (13, 1), (14, 2)]), (3, &[(8, 4), (12, 1)])], &[(4, 4)]);
+        let pages: Vec<u8> = (0..7).flat_map(|page| [page; BLOCK]).collect();
+        assert_eq!(eleven.pages(2, 7), pages);
+    }
 }
 
 #[test]
 fn lengths_counts_and_pages_at_their_limits() {
-    let mut full = (1..=63).fold(Station::fresh(100), |station, id| station.with(id, 1));
-    assert_eq!(add(&mut full.cat, &mut full.disk, 64, &[0; 511]), Err(8));
-    assert_eq!(add(&mut full.cat, &mut full.disk, 64, &[0; 512]), Ok(1));
-    assert_eq!(add(&mut full.cat, &mut full.disk, 65, &[0; 512]), Err(10));
-    let three = Station::fresh(16).with(5, 3);
-    assert_eq!(read(&three.cat, &three.disk, 5, 2, &mut [0; BLOCK]), Ok(1));
-    assert_eq!(read(&three.cat, &three.disk, 5, 2, &mut [0; 2 * BLOCK]), Err(9));
-    assert_eq!(read(&three.cat, &three.disk, 5, u64::MAX, &mut [0; BLOCK]), Err(9));
+    for version in Version::ALL {
+        let mut full = (1..=63).fold(Station::fresh(version, 100), |station, id| station.with(id, 1));
+        assert_eq!(add(&mut full.cat, &mut full.disk, 64, &[0; 511]), Err(8));
+        assert_eq!(add(&mut full.cat, &mut full.disk, 64, &[0; 512]), Ok(1));
+        assert_eq!(add(&mut full.cat, &mut full.disk, 65, &[0; 512]), Err(10));
+        let three = Station::fresh(version, 16).with(5, 3);
+        assert_eq!(read(&three.cat, &three.disk, 5, 2, &mut [0; BLOCK]), Ok(1));
+        assert_eq!(read(&three.cat, &three.disk, 5, 2, &mut [0; 2 * BLOCK]), Err(9));
+        assert_eq!(read(&three.cat, &three.disk, 5, u64::MAX, &mut [0; BLOCK]), Err(9));
+    }
+}
+
+/// A disk of zero bytes takes no memory until it is written, and format only looks at its length.
+#[test]
+fn the_greatest_disk_of_a_version() {
+    for version in Version::ALL {
+        let most = version.most_blocks;
+        let mut cat = vec![7; version.catalogue];
+        assert_eq!(format(&mut cat, &vec![0; (most + 1) * BLOCK]), Err(2));
+        assert_eq!(cat, vec![7; version.catalogue]);
+        let disk = vec![0; most * BLOCK];
+        assert_eq!(format(&mut cat, &disk), Ok(most as u64));
+        assert_eq!(cat, bytes_of(version, most, &[], &[(0, most as u32)]));
+        assert_eq!(check(&cat, &disk), Ok(most as u64));
+        let next = bytes_of(version, most + 1, &[], &[(0, most as u32), (most as u32, 1)]);
+        assert_eq!(check(&next, &disk), Err(3));
+    }
+}
+
+/// A file of every length below the greatest: as many pieces as a file can have, of which no merge copies a block.
+#[test]
+fn a_file_of_the_most_pieces() {
+    for version in Version::ALL {
+        let most = version.most_blocks as u32;
+        let pairs: Vec<Pair> = (0..most.ilog2()).map(|height| (1 << height, 1 << height)).collect();
+        let cat = bytes_of(version, version.most_blocks, &[(9, &pairs)], &[(0, 1)]);
+        assert_eq!(breaks(&cat, 9), Ok(pairs.len() as u64 - 1));
+        let full = Station { version, cat, disk: vec![0; version.most_blocks * BLOCK] };
+        full.without(9, 0).has(&[], &[(0, most)]);
+    }
 }

@@ -6,10 +6,10 @@ use Rattle.cases.proofs.print_row.Statement.{statement}
 use Rattle.cases.proofs.print_row.Tie as tie
 
 abbrev Inv-loop : tie.InvT-loop
-Inv-loop name call x y₀ y = y₀ ≤ y
+Inv-loop name call size x y₀ y = y₀ ≤ y
 
 abbrev μ-loop : tie.MeasureT-loop
-μ-loop name call x y₀ y = 12 - y
+μ-loop name call size x y₀ y = 12 - y
 
 loop-holds : tie.Need-loop-holds Inv-loop μ-loop
 loop-holds c = omega arith

@@ -6,10 +6,10 @@ use Rattle.cases.proofs.print_rows.Statement.{statement}
 use Rattle.cases.proofs.print_rows.Tie as tie
 
 abbrev Inv-loop : tie.InvT-loop
-Inv-loop name call x₀ x = x₀ ≤ x
+Inv-loop name call size x₀ x = x₀ ≤ x
 
 abbrev μ-loop : tie.MeasureT-loop
-μ-loop name call x₀ x = 12 - x
+μ-loop name call size x₀ x = 12 - x
 
 loop-holds : tie.Need-loop-holds Inv-loop μ-loop
 loop-holds c = omega arith

@@ -9,16 +9,18 @@ read-table-requires : tie.Need-read-table-requires
 read-table-requires c κs = search needs
 
 is-sound-read-requires : tie.Need-is-sound-read-requires
-is-sound-read-requires c κs = c .read-table .ensures
+is-sound-read-requires c κs = (c .before .before .pre .0, c .read-table .ensures)
 
 returns : tie.Need-returns
 returns c =
-    loaded-none _ _ _ (c .before .before .before .is-sound-read .ensures) (c .before .before .before .before .read-table .ensures .exact)
+    loaded-none _ _ _ _ (c .before .before .before .is-sound-read .ensures)
+    (c .before .before .before .before .read-table .ensures .exact)
     (not-true _ (c .before .if1 .taken))
 
 returns-2 : tie.Need-returns-2
 returns-2 c =
-    loaded-sound _ _ _ (c .before .before .is-sound-read .ensures) (c .before .before .before .read-table .ensures .exact)
+    loaded-sound _ _ _ _ (c .before .before .is-sound-read .ensures)
+    (c .before .before .before .read-table .ensures .exact)
     (not-false _ (c .if1 .left))
 
 pub load-spec : {M : Type 1} → statement M

@@ -1,4 +1,5 @@
--- `section_cases::print_section` is safe for all numbers: what has a height is no higher than the greatest. Assumes nothing.
+-- `section_cases::print_section` is safe for all numbers: what has a height is no higher than the greatest.
+-- Assumes nothing.
 use mathlib.Core.Path.{sym, _∙_}
 use Rattle.section.proofs.Lengths.{length-of-height}
 use borrow.Author.Needs.{needs}

@@ -6,7 +6,7 @@ use Prim.Native.Nat.{ℕ, _*_, _+_, _-_}
 use native.Mathlib.Omega.{arith}
 use lib.ListN.{length}
 use borrow.Author.Needs.{needs}
-use Rattle.section.specs.Limits.{blockSize}
+use Rattle.section.specs.Limits.{blockSize, heightCount, mostFiles}
 use Rattle.piece_lists.proofs.Arrays.{length-of-mapped}
 use Rattle.free_pieces.specs.Free.{Pairs, freeOf, lowestPair}
 use Rattle.table.proofs.FilesMoving.{FilesMoving, moving-can, moving-end, moving-kept, moving-long}
@@ -25,8 +25,8 @@ abbrev μ-files : tie.MeasureT-files
 
 abbrev Inv-merges : tie.InvT-merges
 Inv-merges disk₀ t₀ copied₀ p₀ disk t copied p =
-    Settling t₀ disk₀ t disk copied × Pairs (t .free .count) (lowestPair 13 0 (freeOf (t .free))) p
-    × (length (t .files) ≡ 64)
+    Settling t₀ disk₀ t disk copied × Pairs (t .free .count) (lowestPair heightCount 0 (freeOf (t .free))) p
+    × (length (t .files) ≡ mostFiles)
 
 abbrev μ-merges : tie.MeasureT-merges
 μ-merges disk₀ t₀ copied₀ p₀ disk t copied p = t .free .count
@@ -37,7 +37,7 @@ lowest-pair-requires c κs = c .before .before .pre .sized .free
 merges-holds : tie.Need-merges-holds Inv-files μ-files Inv-merges μ-merges
 merges-holds c =
     let a = c .before .before .before in
-    let long : length (a .args .table .files) ≡ 64 = search (needs, length-of-mapped) in
+    let long : length (a .args .table .files) ≡ mostFiles = search (needs, length-of-mapped) in
     (settling-start (a .args .table) (a .args .disk .now) (a .pre), c .lowest-pair .ensures, long)
 
 copy-merge-requires : tie.Need-copy-merge-requires Inv-files μ-files Inv-merges μ-merges

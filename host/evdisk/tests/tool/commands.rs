@@ -35,7 +35,13 @@ fn case_7_is_listed_and_drawn() {
 #[test]
 fn shifted_events_are_read_back_equal() {
     let events: Vec<(u16, usize)> = (1..=40).map(|id| (id, 1 + usize::from(id) * 7 % 23)).collect();
-    let scratch = Scratch::disk(500, &events);
+    for scratch in [Scratch::disk(500, &events), Scratch::large_disk(500, &events)] {
+        every_other_is_removed(&scratch);
+    }
+}
+
+/// Removes every other of 40 events and sees to it that the others are shifted and keep their pages.
+fn every_other_is_removed(scratch: &Scratch) {
     let place = |id: u16| {
         scratch.does("list d").lines().find(|line| line.starts_with(&format!("{id:>5} "))).map(str::to_string)
     };
@@ -112,7 +118,7 @@ fn names_that_look_like_options_stand_after_two_dashes() {
 }
 
 #[test]
-fn the_greatest_disk_takes_an_event_that_fills_it() {
+fn the_greatest_disk_with_the_small_catalogue_takes_an_event_that_fills_it() {
     let scratch = Scratch::disk(4096, &[(65535, 4096)]);
     assert!(scratch.event(65535) == scratch.read("event-65535"));
     assert_eq!(scratch.does("free d"), "0 blocks free\n");

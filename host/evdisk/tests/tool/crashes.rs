@@ -6,10 +6,18 @@ use evdisk_tool::commit;
 use evdisk_tool::redo::Redo;
 use std::collections::BTreeMap;
 
-/// Disks and a removal on each that copies blocks: the number of blocks, the events in the order of adding, and the id.
+/// Disks with either catalogue, and the id of a removal on each that copies blocks.
 fn removals() -> Vec<(Scratch, u16)> {
     let many: Vec<(u16, usize)> = (1..=12).map(|id| (id, [1, 3, 2, 7, 5, 1][usize::from(id) % 6])).collect();
-    vec![(Scratch::case_6(), 5), (Scratch::disk(45, &many), 2), (Scratch::disk(64, &many), 1)]
+    let [small, large] = Scratch::cases_6();
+    vec![
+        (small, 5),
+        (Scratch::disk(45, &many), 2),
+        (Scratch::disk(64, &many), 1),
+        (large, 5),
+        (Scratch::large_disk(45, &many), 2),
+        (Scratch::disk(4100, &many), 1),
+    ]
 }
 
 /// The events that the tool reads, with their pages.
@@ -65,20 +73,22 @@ fn a_removal_cut_off_after_any_write_is_found_undone_or_done() {
 
 #[test]
 fn a_removal_cut_off_again_while_it_is_completed_is_done() {
-    let (old, id) = removals().swap_remove(1);
-    let new = uncut(&old, id);
-    let cut_off = |after| {
-        let scratch = old.copy();
-        remove(&scratch, id, after);
-        scratch
-    };
-    for first in [2, 4, remove(&old.copy(), id, usize::MAX).made.len() - 2] {
-        let writes = complete(&cut_off(first), usize::MAX).made.len();
-        for second in 1..=writes {
-            let scratch = cut_off(first);
-            complete(&scratch, second);
-            complete(&scratch, second / 2 + 1);
-            is_new(&scratch, &new, &format!("after {first} and then {second} writes"));
+    let mut removals = removals();
+    for (old, id) in [removals.swap_remove(4), removals.swap_remove(1)] {
+        let new = uncut(&old, id);
+        let cut_off = |after| {
+            let scratch = old.copy();
+            remove(&scratch, id, after);
+            scratch
+        };
+        for first in [2, 4, remove(&old.copy(), id, usize::MAX).made.len() - 2] {
+            let writes = complete(&cut_off(first), usize::MAX).made.len();
+            for second in 1..=writes {
+                let scratch = cut_off(first);
+                complete(&scratch, second);
+                complete(&scratch, second / 2 + 1);
+                is_new(&scratch, &new, &format!("after {first} and then {second} writes"));
+            }
         }
     }
 }
@@ -89,7 +99,8 @@ fn blocks_a_catalogue_and_a_log_line_half_written_are_written_again() {
         let new = uncut(&old, id);
         let scratch = old.copy();
         remove(&scratch, id, 2);
-        let redo = Redo::of_bytes(&scratch.read("d.redo")).expect("a whole redo file");
+        let bytes = scratch.read("d.redo");
+        let redo = Redo::of_bytes(&bytes).expect("a whole redo file");
         let mut image = scratch.read("d");
         for (block, _) in &redo.changed {
             let at = *block as usize * 512;
@@ -117,31 +128,36 @@ fn a_redo_file_half_written_is_cleared_away() {
     assert_eq!(scratch.does("remove d 5"), "removed 5: 2 blocks copied (contract limit 2)\n");
 }
 
+/// Adds event 7 of 9 blocks, cut off after so many writes; says which were made.
+fn add(scratch: &Scratch, content: &[u8], after: usize) -> Cut {
+    let (paths, image, mut disk) = opened(scratch);
+    event_disk::add(&mut disk.catalogue, &mut disk.blocks, 7, content).expect("there is space");
+    let listing = event_disk::list(&disk.catalogue).expect("a sound catalogue");
+    let added = listing.files.iter().find(|file| file.id == 7).expect("it was added");
+    let mut cut = Cut::after(after);
+    let pages = disk.blocks_of(&added.pieces);
+    let done = commit::add(&paths, &image, &pages, &disk.catalogue, &mut |write| cut.watch(write));
+    cut.ended(done)
+}
+
 #[test]
 fn an_add_cut_off_after_any_write_is_found_undone_or_done() {
-    let old = Scratch::case_6();
     let content = miniseed::event(7, 9);
-    for after in 1.. {
-        let scratch = old.copy();
-        let (paths, image, before) = opened(&scratch);
-        let mut disk = before.clone();
-        event_disk::add(&mut disk.catalogue, &mut disk.blocks, 7, &content).expect("there is space");
-        let mut cut = Cut::after(after);
-        let done = commit::add(&paths, &image, &before, &disk, &mut |write| cut.watch(write));
-        drop(image);
-        if cut.made("catalogue named") {
-            assert_eq!(scratch.does("check d"), "sound: 16 blocks\n");
-            assert!(scratch.event(7) == content && scratch.read("d") == disk.blocks);
-        } else {
-            is_old(&scratch, &old, &format!("after {after} writes"));
-            scratch.write("e", &content);
-            scratch.does("add d 7 e");
-        }
-        let both: Vec<_> = events(&scratch).into_iter().filter(|(id, _)| *id != 7).collect();
-        assert_eq!(both, events(&old).into_iter().collect::<Vec<_>>());
-        if done.is_ok() {
-            assert_eq!(cut.made.len(), 9 + 2, "nine blocks and the catalogue's two steps");
-            return;
+    for old in Scratch::cases_6() {
+        let writes = add(&old.copy(), &content, usize::MAX).made.len();
+        assert_eq!(writes, 9 + 2, "nine blocks and the catalogue's two steps");
+        for after in 1..=writes {
+            let scratch = old.copy();
+            if add(&scratch, &content, after).made("catalogue named") {
+                assert!(scratch.does("check d").starts_with("sound: 16 blocks"));
+            } else {
+                is_old(&scratch, &old, &format!("after {after} writes"));
+                scratch.write("e", &content);
+                scratch.does("add d 7 e");
+            }
+            assert!(scratch.event(7) == content, "after {after} writes");
+            let others: Vec<_> = events(&scratch).into_iter().filter(|(id, _)| *id != 7).collect();
+            assert_eq!(others, events(&old).into_iter().collect::<Vec<_>>());
         }
     }
 }

@@ -4,7 +4,6 @@ use crate::scratch::Scratch;
 use evdisk_tool::commit;
 use evdisk_tool::files;
 use evdisk_tool::paths::Paths;
-use evdisk_tool::redo::Redo;
 use evdisk_tool::store::Disk;
 use evdisk_tool::Failure;
 
@@ -32,7 +31,7 @@ impl Cut {
     }
 
     /// Keeps how the command ended, which must be by being cut off if it was.
-    fn ended(mut self, done: Result<impl Sized, Failure>) -> Cut {
+    pub fn ended(mut self, done: Result<impl Sized, Failure>) -> Cut {
         self.failure = done.err();
         assert_eq!(self.failure.is_some(), self.made.len() == self.after);
         self
@@ -46,17 +45,17 @@ impl Cut {
 pub fn opened(scratch: &Scratch) -> (Paths, std::fs::File, Disk) {
     let paths = Paths::of(&scratch.path("d"));
     let image = files::open_to_write(&paths.image).expect("the image");
-    let disk = Disk::of_files(&paths, &image).expect("the disk");
+    let disk = Disk::whole(&paths, &image).expect("the disk");
     (paths, image, disk)
 }
 
 /// Removes an event, cut off after so many writes; says which were made.
 pub fn remove(scratch: &Scratch, id: u16, after: usize) -> Cut {
-    let (paths, image, before) = opened(scratch);
-    let mut disk = before.clone();
+    let (paths, image, mut disk) = opened(scratch);
+    let before = disk.catalogue.clone();
     let copied = event_disk::remove(&mut disk.catalogue, &mut disk.blocks, id).expect("the event is there");
     assert!(copied > 0, "this test is about removals that copy");
-    let redo: Redo = commit::written_down(&paths, &before, &disk, LINE).expect("the log");
+    let redo = commit::written_down(&paths, &image, &before, &disk, LINE).expect("the log");
     let mut cut = Cut::after(after);
     let done = commit::remove(&paths, &image, &redo, &mut |write| cut.watch(write));
     cut.ended(done)

@@ -32,6 +32,16 @@ fn each_command_has_a_help_of_its_own() {
 }
 
 #[test]
+fn the_limits_of_every_version_are_told() {
+    let help = Scratch::new().does("format --help");
+    for event_disk::Version { catalogue, most_blocks, .. } in event_disk::Version::ALL {
+        let plain = MANUAL.replace(',', "");
+        assert!(help.contains(&format!("{catalogue} bytes")) && plain.contains(&format!(" {catalogue} ")));
+        assert!(help.contains(&format!("{most_blocks}")) && plain.contains(&format!("1 to {most_blocks} ")));
+    }
+}
+
+#[test]
 fn the_manual_page_names_every_command_and_option() {
     for command in &COMMANDS {
         assert!(MANUAL.contains(&format!("\n\\fBevdisk {}\\fP ", command.name)), "{}", command.name);

@@ -46,12 +46,12 @@ fn json(scratch: &Scratch, words: &str) -> String {
 fn each_command_answers_in_json() {
     let scratch = Scratch::case_6();
     scratch.write("e", &miniseed::event(7, 9));
-    assert_eq!(json(&scratch, "format new --blocks 5"), r#"{"blocks":5}"#);
+    assert_eq!(json(&scratch, "format new --blocks 5"), r#"{"blocks":5,"version":1}"#);
     let added = r#"{"id":7,"blocks":9,"pieces":[{"first":8,"length":8},{"first":6,"length":1}]}"#;
     assert_eq!(json(&scratch, "add d 7 e"), added);
     assert_eq!(json(&scratch, "breaks d 7"), r#"{"id":7,"breaks":1}"#);
     assert_eq!(json(&scratch, "free d"), r#"{"free":1}"#);
-    assert_eq!(json(&scratch, "check d"), r#"{"blocks":16}"#);
+    assert_eq!(json(&scratch, "check d"), r#"{"blocks":16,"version":1}"#);
     assert_eq!(json(&scratch, "remove d 2"), r#"{"id":2,"blocks":2,"copied":0,"limit":0}"#);
 }
 
@@ -59,11 +59,22 @@ fn each_command_answers_in_json() {
 fn a_list_in_json_has_all_that_the_table_has() {
     let scratch = Scratch::disk(6, &[(300, 3)]);
     let list = r#"{"blocks":6,"free":3,"files":[{"id":300,"blocks":3,"breaks":1,"pieces":[{"first":4,"length":2},"#;
-    let rest = r#"{"first":0,"length":1}]}],"free_pieces":[{"first":1,"length":1},{"first":2,"length":2}]}"#;
+    let rest =
+        r#"{"first":0,"length":1}]}],"free_pieces":[{"first":1,"length":1},{"first":2,"length":2}],"version":1}"#;
     assert_eq!(json(&scratch, "list d"), format!("{list}{rest}"));
     scratch.does("remove d 300");
-    let empty = r#"{"blocks":6,"free":6,"files":[],"free_pieces":[{"first":0,"length":4},{"first":4,"length":2}]}"#;
-    assert_eq!(json(&scratch, "list d"), empty);
+    let empty = r#"{"blocks":6,"free":6,"files":[],"free_pieces":[{"first":0,"length":4},{"first":4,"length":2}]"#;
+    assert_eq!(json(&scratch, "list d"), format!(r#"{empty},"version":1}}"#));
+}
+
+#[test]
+fn a_disk_with_the_large_catalogue_has_version_2_in_json() {
+    let scratch = Scratch::new();
+    assert_eq!(json(&scratch, "format d --blocks 70000"), r#"{"blocks":70000,"version":2}"#);
+    assert_eq!(json(&scratch, "check d"), r#"{"blocks":70000,"version":2}"#);
+    let list = json(&scratch, "list d");
+    assert!(list.starts_with(r#"{"blocks":70000,"free":70000,"files":[],"free_pieces":[{"first":0,"length":65536},"#));
+    assert!(list.ends_with(r#"{"first":69984,"length":16}],"version":2}"#), "{list}");
 }
 
 #[test]

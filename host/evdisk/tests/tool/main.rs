@@ -7,6 +7,7 @@ mod crashes;
 mod cut;
 mod help;
 mod json;
+mod large;
 mod locks;
 mod refusals;
 mod scratch;

@@ -16,7 +16,10 @@ fn complains(scratch: &Scratch, words: &str, status: i32, why: &str) {
 const SPACE: &str = "there are fewer free blocks than the file needs";
 const LENGTH: &str = "the length is 0 or no multiple of 512 bytes";
 const END: &str = "the pages go past the end of the file";
-const NO_DISK: &str = "the disk is not 1 to 4,096 blocks of 512 bytes long";
+const NO_DISK: &str = "the disk is not 1 to 4,096 blocks of 512 bytes long, or 1 to 1,048,576 with the large catalogue";
+const NO_CATALOGUE: &str = "the catalogue is neither 4,096 nor 16,384 bytes long";
+const UNSOUND: &str = "the catalogue is not sound";
+const OTHER_DISK: &str = "the disk is not as long as the catalogue says";
 
 #[test]
 fn the_managers_refusals_come_with_their_numbers() {
@@ -49,10 +52,11 @@ fn pages_past_the_end_are_refused_however_many() {
 }
 
 #[test]
-fn a_disk_has_1_to_4096_blocks() {
+fn a_disk_has_1_to_1048576_blocks() {
     let scratch = Scratch::new();
-    for blocks in ["0", "4097", "18446744073709551616"] {
+    for blocks in ["0", "1048577", "18446744073709551616"] {
         refused(&scratch, &format!("format d --blocks {blocks}"), 2, NO_DISK);
+        refused(&scratch, &format!("format d --blocks {blocks} --large"), 2, NO_DISK);
     }
     scratch.write("odd", &[0; 700]);
     refused(&scratch, "format odd --force", 2, NO_DISK);
@@ -124,31 +128,60 @@ fn files_that_are_not_there_or_not_right_are_named() {
     complains(&scratch, "format d --blocks 8 --force", 2, "the image has 16 blocks: leave --blocks out");
 }
 
+/// Commands that look at catalogue and image, and others that look at the catalogue alone.
+const BY_BOTH: [&str; 4] = ["add d 7 event-5", "remove d 5", "read d 5", "check d"];
+const BY_CATALOGUE: [&str; 4] = ["list d", "breaks d 5", "free d", "map d"];
+
 #[test]
 fn a_damaged_disk_is_refused_by_every_command() {
-    let commands = ["add d 7 event-5", "remove d 5", "read d 5", "check d"];
-    let by_catalogue = ["list d", "breaks d 5", "free d", "map d"];
-    let damaged = |name: &str, bytes: &dyn Fn(&mut Vec<u8>)| {
-        let scratch = Scratch::case_6();
-        let mut content = scratch.read(name);
-        bytes(&mut content);
-        scratch.write(name, &content);
-        scratch
-    };
-    let unsound = damaged("d.cat", &|bytes| bytes[9] ^= 1);
-    let short = damaged("d.cat", &|bytes| bytes.truncate(4095));
-    let long = damaged("d.cat", &|bytes| bytes.push(0));
-    for words in commands.iter().chain(&by_catalogue) {
-        refused(&unsound, words, 3, "the catalogue is not sound");
-        refused(&short, words, 1, "the catalogue is not 4,096 bytes long");
-        refused(&long, words, 1, "the catalogue is not 4,096 bytes long");
+    for scratch in Scratch::cases_6() {
+        let damaged = |name: &str, change: &dyn Fn(&mut Vec<u8>)| {
+            let scratch = scratch.copy();
+            scratch.change(name, |bytes| change(bytes));
+            scratch
+        };
+        let unsound = damaged("d.cat", &|bytes| *bytes.last_mut().expect("it has bytes") = 1);
+        let short = damaged("d.cat", &|bytes| bytes.truncate(bytes.len() - 1));
+        let long = damaged("d.cat", &|bytes| bytes.push(0));
+        for words in BY_BOTH.iter().chain(&BY_CATALOGUE) {
+            refused(&unsound, words, 3, UNSOUND);
+            refused(&short, words, 1, NO_CATALOGUE);
+            refused(&long, words, 1, NO_CATALOGUE);
+        }
+        let cut = damaged("d", &|bytes| bytes.truncate(8191));
+        let grown = damaged("d", &|bytes| bytes.resize(3 << 20, 0));
+        for words in BY_BOTH {
+            refused(&cut, words, 4, OTHER_DISK);
+            refused(&grown, words, 4, OTHER_DISK);
+        }
     }
-    let cut = damaged("d", &|bytes| bytes.truncate(8191));
-    let grown = damaged("d", &|bytes| bytes.resize(3 << 20, 0));
-    for words in commands {
-        refused(&cut, words, 4, "the disk is not as long as the catalogue says");
-        refused(&grown, words, 4, "the disk is not as long as the catalogue says");
+}
+
+#[test]
+fn a_version_in_a_catalogue_of_the_other_length_is_refused() {
+    let [small, large] = Scratch::cases_6();
+    small.change("d.cat", |bytes| bytes.resize(16_384, 0));
+    large.change("d.cat", |bytes| bytes.truncate(4096));
+    let between = large.copy();
+    between.change("d.cat", |bytes| bytes.resize(8192, 0));
+    for words in BY_BOTH.iter().chain(&BY_CATALOGUE) {
+        refused(&small, words, 3, UNSOUND);
+        refused(&large, words, 3, UNSOUND);
+        refused(&between, words, 1, NO_CATALOGUE);
     }
+}
+
+#[test]
+fn a_catalogue_of_another_disk_is_refused_where_the_image_counts() {
+    let (small, large) = (Scratch::case_6(), Scratch::disk(4200, &[(5, 3)]));
+    let (first, second) = (small.read("d.cat"), large.read("d.cat"));
+    small.write("d.cat", &second);
+    large.write("d.cat", &first);
+    for words in BY_BOTH {
+        refused(&small, words, 4, OTHER_DISK);
+        refused(&large, words, 4, OTHER_DISK);
+    }
+    assert_eq!((small.does("free d"), large.does("free d")), ("4197 blocks free\n".into(), "10 blocks free\n".into()));
 }
 
 #[test]

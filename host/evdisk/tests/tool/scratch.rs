@@ -26,6 +26,8 @@ impl Said {
     }
 }
 
+/// The events of case 6 in the order of adding: id and blocks.
+const CASE_6: [(u16, usize); 3] = [(5, 3), (9, 1), (2, 2)];
 /// The tool.
 pub const TOOL: &str = env!("CARGO_BIN_EXE_evdisk");
 
@@ -41,15 +43,27 @@ impl Scratch {
 
     /// A folder with document 01's case 6: 16 blocks with ids 5, 9 and 2 of 3, 1 and 2 blocks, and their files.
     pub fn case_6() -> Scratch {
-        let scratch = Scratch::disk(16, &[(5, 3), (9, 1), (2, 2)]);
-        assert_eq!(scratch.does("free d"), "10 blocks free\n");
-        scratch
+        Scratch::disk(16, &CASE_6)
+    }
+
+    /// Case 6 with the small catalogue, and with the large one.
+    pub fn cases_6() -> [Scratch; 2] {
+        [Scratch::case_6(), Scratch::large_disk(16, &CASE_6)]
     }
 
     /// A folder with the disk `d` and events of these ids and lengths on it, each also in the file `event-ID`.
     pub fn disk(blocks: usize, events: &[(u16, usize)]) -> Scratch {
+        Scratch::formatted(&format!("format d --blocks {blocks}"), events)
+    }
+
+    /// The same with the large catalogue, however few blocks there are.
+    pub fn large_disk(blocks: usize, events: &[(u16, usize)]) -> Scratch {
+        Scratch::formatted(&format!("format d --blocks {blocks} --large"), events)
+    }
+
+    fn formatted(format: &str, events: &[(u16, usize)]) -> Scratch {
         let scratch = Scratch::new();
-        scratch.does(&format!("format d --blocks {blocks}"));
+        scratch.does(format);
         for (id, length) in events {
             scratch.write(&format!("event-{id}"), &miniseed::event(u64::from(*id), *length));
             scratch.does(&format!("add d {id} event-{id}"));
@@ -72,6 +86,13 @@ impl Scratch {
 
     pub fn write(&self, name: &str, bytes: &[u8]) {
         fs::write(self.path(name), bytes).expect("a scratch file");
+    }
+
+    /// Writes a file again with its bytes changed.
+    pub fn change(&self, name: &str, change: impl FnOnce(&mut Vec<u8>)) {
+        let mut bytes = self.read(name);
+        change(&mut bytes);
+        self.write(name, &bytes);
     }
 
     pub fn read(&self, name: &str) -> Vec<u8> {

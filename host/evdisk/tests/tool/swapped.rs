@@ -1,11 +1,16 @@
 //! A redo file that is damaged or belongs to another disk is never carried out, and nothing is lost by it.
 
-use crate::cut::{remove, Cut};
+use crate::cut::{remove, Cut, LINE};
 use crate::scratch::Scratch;
+use evdisk_tool::checksum::checksum;
 
 /// Case 6 with the removal of id 5 decided, and nothing of it done.
 fn decided() -> Scratch {
-    let scratch = Scratch::case_6();
+    decided_on(Scratch::case_6())
+}
+
+/// The same on a disk of case 6 that is there.
+fn decided_on(scratch: Scratch) -> Scratch {
     let Cut { made, failure, .. } = remove(&scratch, 5, 2);
     assert_eq!(made, ["redo file written", "redo file named"]);
     let told = "the supply failed; the removal is decided, and the next command completes it";
@@ -22,14 +27,50 @@ fn complains(scratch: &Scratch, why: &str) {
     }
 }
 
+const DAMAGED: &str = "this redo file is damaged; nothing was changed (see evdisk(1), RECOVERY)";
+
 #[test]
 fn a_damaged_redo_file_is_refused() {
-    let scratch = decided();
-    let mut redo = scratch.read("d.redo");
-    let middle = redo.len() / 2;
-    redo[middle] ^= 1;
-    scratch.write("d.redo", &redo);
-    complains(&scratch, "this redo file is damaged; nothing was changed (see evdisk(1), RECOVERY)");
+    for scratch in Scratch::cases_6().map(decided_on) {
+        scratch.change("d.redo", |redo| {
+            let middle = redo.len() / 2;
+            redo[middle] ^= 1;
+        });
+        complains(&scratch, DAMAGED);
+    }
+}
+
+/// Makes a redo file one of an older tool, which knew the small catalogue alone: another mark, and no length before the
+/// catalogue. The checksum is right.
+fn as_the_older_tool(redo: &mut Vec<u8>) {
+    let mut old = [b"EVDISKR1", &redo[8..24], &redo[32..redo.len() - 8]].concat();
+    old.extend_from_slice(&checksum(&old).to_be_bytes());
+    *redo = old;
+}
+
+#[test]
+fn a_redo_file_of_an_older_tool_is_carried_out_with_the_small_catalogue_alone() {
+    let [small, large] = Scratch::cases_6();
+    let uncut = small.copy();
+    uncut.does("remove d 5");
+    let [small, large] = [small, large].map(decided_on);
+    for scratch in [&small, &large] {
+        scratch.change("d.redo", as_the_older_tool);
+    }
+    assert_eq!(small.says("free d").out, "13 blocks free\n");
+    assert!(small.read("d") == uncut.read("d") && small.read("d.cat") == uncut.read("d.cat"));
+    assert_eq!(small.read("d.log"), LINE.as_bytes());
+    complains(&large, DAMAGED);
+}
+
+#[test]
+fn a_redo_file_beside_the_catalogue_of_another_version_is_refused() {
+    let [small, large] = Scratch::cases_6();
+    let catalogues = [large.read("d.cat"), small.read("d.cat")];
+    for (scratch, other) in [small, large].map(decided_on).into_iter().zip(catalogues) {
+        scratch.write("d.cat", &other);
+        complains(&scratch, "this redo file belongs to another disk; nothing was changed");
+    }
 }
 
 #[test]

@@ -5,4 +5,5 @@ mod cases;
 mod common;
 mod refusals;
 mod soundness;
+mod versions;
 mod wrong_turns;

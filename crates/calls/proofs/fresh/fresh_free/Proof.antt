@@ -7,7 +7,7 @@ use native.Mathlib.Nat.{mod-le}
 use native.Mathlib.Omega.{arith}
 use lib.ListN.{length, length-set}
 use borrow.Author.Needs.{needs}
-use Rattle.section.specs.Limits.{greatestHeight}
+use Rattle.section.specs.Limits.{heightCount}
 use Rattle.layout.specs.Layout.{piecesFrom}
 use Rattle.piece_lists.specs.Few.{listOf, piecePlaces}
 use Rattle.calls.specs.Fresh.{piecesWith}
@@ -17,8 +17,8 @@ use Rattle.calls.proofs.fresh.fresh_free.Tie as tie
 
 abbrev Inv-loop : tie.InvT-loop
 Inv-loop blocks free₀ h₀ free h =
-    (h ≤ suc greatestHeight) × (free .count + h ≤ piecePlaces) × (length (free .items) ≡ piecePlaces)
-    × (piecesWith blocks h free ≡ piecesFrom (suc greatestHeight) blocks 0)
+    (h ≤ heightCount) × (free .count + h ≤ piecePlaces) × (length (free .items) ≡ piecePlaces)
+    × (piecesWith blocks h free ≡ piecesFrom heightCount blocks 0)
 
 abbrev μ-loop : tie.MeasureT-loop
 μ-loop blocks free₀ h₀ free h = h

@@ -1,5 +1,5 @@
--- `case_inputs::refusals::is_listed` meets its contract: what is left of the list has the number exactly if the whole has.
--- Assumes nothing.
+-- `case_inputs::refusals::is_listed` meets its contract: what is left of the list has the number exactly if the whole
+-- has. Assumes nothing.
 use mathlib.Core.Bool.{Bool, _||_, false, true}
 use mathlib.Core.Path.{_≡_, _∙_, refl, sym, ap}
 use Prim.Native.Nat.{_-_, _<_, suc, ℕ}

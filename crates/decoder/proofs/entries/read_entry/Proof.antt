@@ -3,16 +3,19 @@ use mathlib.Core.Path.{_∙_, sym}
 use native.Mathlib.Omega.{arith}
 use borrow.Author.Needs.{needs}
 use borrow.Author.Tests.{not-true, not-false}
-use lib.Count.{ones-le}
+use Rattle.decoder.proofs.Places.{ones-fit}
 use Rattle.decoder.proofs.Entering.{many-pieces, refused-entry, short-entry, some-entry, unread-entry}
 use Rattle.decoder.proofs.entries.read_entry.Statement.{statement}
 use Rattle.decoder.proofs.entries.read_entry.Tie as tie
+
+add-front : tie.Need-add-front
+add-front c = search needs
 
 no-file-requires : tie.Need-no-file-requires
 no-file-requires c κs = search needs
 
 returns : tie.Need-returns
-returns c = short-entry _ _ (c .before .if1 .taken) (c .no-file .ensures)
+returns c = short-entry _ _ _ (c .before .if1 .taken) (c .no-file .ensures)
 
 read-field-requires : tie.Need-read-field-requires
 read-field-requires c κs = search needs
@@ -21,7 +24,12 @@ read-field-requires-2 : tie.Need-read-field-requires-2
 read-field-requires-2 c κs = search needs
 
 cast-count : tie.Need-cast-count
-cast-count c = omega (arith, ones-le 16 (c .read-field2 .result) (c .read-field2 .ensures .most))
+cast-count c =
+    omega (
+      arith,
+      ones-fit _ (c .read-field2 .result) (c .before .before .before .before .pre)
+          (c .read-field2 .ensures .most),
+    )
 
 no-file-requires-2 : tie.Need-no-file-requires-2
 no-file-requires-2 c κs = search needs
@@ -29,7 +37,8 @@ no-file-requires-2 c κs = search needs
 returns-2 : tie.Need-returns-2
 returns-2 c =
     let b = c .before .before in
-    many-pieces (b .before .before .before .before .args .s .now) _ _ (b .before .read-field .ensures)
+    many-pieces (b .before .before .before .before .args .width) (b .before .before .before .before .args .s .now) _ _
+    (b .before .read-field .ensures)
     (b .read-field2 .ensures) (c .before .if2 .taken) _ (c .no-file2 .ensures)
 
 read-pairs-requires : tie.Need-read-pairs-requires
@@ -41,7 +50,8 @@ no-file-requires-3 c κs = search needs
 returns-3 : tie.Need-returns-3
 returns-3 c =
     let b = c .before .before .before .before .before in
-    unread-entry (b .before .before .before .before .args .s .now) _ _ (b .before .read-field .ensures)
+    unread-entry (b .before .before .before .before .args .width)
+    (b .before .before .before .before .args .s .now) _ _ (b .before .read-field .ensures)
     (b .read-field2 .ensures) _ (c .before .before .before .read-pairs .ensures) _ (not-true _ (c .before .if3 .taken))
     (c .no-file3 .ensures)
 
@@ -54,7 +64,8 @@ no-file-requires-4 c κs = search needs
 returns-4 : tie.Need-returns-4
 returns-4 c =
     let b = c .before .before .before .before .before .before .before .before in
-    refused-entry (b .before .before .before .before .args .s .now) _ _ (b .before .read-field .ensures)
+    refused-entry (b .before .before .before .before .args .width)
+    (b .before .before .before .before .args .s .now) _ _ (b .before .read-field .ensures)
     (b .read-field2 .ensures) _ (c .before .before .before .before .before .before .read-pairs .ensures)
     (not-false _ (c .before .before .before .before .if3 .left)) _
     (sym (c .before .before .is-file .ensures) ∙ not-true _ (c .before .if4 .taken)) (c .no-file4 .ensures)
@@ -62,16 +73,11 @@ returns-4 c =
 sorted-requires : tie.Need-sorted-requires
 sorted-requires c κs = search needs
 
-mul-t8 : tie.Need-mul-t8
-mul-t8 c = search needs
-
-add-t12 : tie.Need-add-t12
-add-t12 c = search needs
-
 returns-5 : tie.Need-returns-5
 returns-5 c =
     let b = c .before .before .before .before .before .before .before .before in
-    some-entry (b .before .before .before .before .args .s .now) _ _ (b .before .read-field .ensures)
+    some-entry (b .before .before .before .before .args .width) (b .before .before .before .before .args .s .now) _ _
+    (b .before .read-field .ensures)
     (b .read-field2 .ensures) _ (c .before .before .before .before .before .before .read-pairs .ensures)
     (not-false _ (c .before .before .before .before .if3 .left)) _
     (sym (c .before .before .is-file .ensures) ∙ not-false _ (c .before .if4 .left)) (c .sorted .ensures)
@@ -80,6 +86,7 @@ pub read-entry-spec : {M : Type 1} → statement M
 read-entry-spec =
     tie.close
     (tie.spec
+    add-front
     no-file-requires
     returns
     read-field-requires
@@ -94,6 +101,4 @@ read-entry-spec =
     no-file-requires-4
     returns-4
     sorted-requires
-    mul-t8
-    add-t12
     returns-5)

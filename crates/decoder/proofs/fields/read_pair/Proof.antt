@@ -7,6 +7,9 @@ use borrow.Author.Needs.{needs}
 use Rattle.decoder.proofs.fields.read_pair.Statement.{statement}
 use Rattle.decoder.proofs.fields.read_pair.Tie as tie
 
+mul-if1 : tie.Need-mul-if1
+mul-if1 c = search needs
+
 sub-if1 : tie.Need-sub-if1
 sub-if1 c = search needs
 
@@ -16,7 +19,7 @@ no-pair-requires c κs = search needs
 returns : tie.Need-returns
 returns c =
     let a = c .before .before .before .args in
-    no-pair-at _ _ _ (pair-short (a .s .now) (a .at) (c .before .if1 .taken)) (c .no-pair .ensures)
+    no-pair-at _ _ _ _ (pair-short (a .width) (a .s .now) (a .at) (c .before .if1 .taken)) (c .no-pair .ensures)
 
 read-field-requires : tie.Need-read-field-requires
 read-field-requires c κs = search needs
@@ -43,14 +46,15 @@ returns-2 : tie.Need-returns-2
 returns-2 c =
     let b = c .before .before .before .before in
     let a = b .before .before .before .before .args in
-    some-pair-at (a .s .now) (a .at) _ _ (b .before .read-field .ensures) (b .read-field2 .ensures) _
+    some-pair-at (a .width) (a .s .now) (a .at) _ _ (b .before .read-field .ensures) (b .read-field2 .ensures) _
     (sym (c .before .before .before .of-length .ensures) ∙ c .before .measured .given .1) (omega arith)
 
 returns-3 : tie.Need-returns-3
 returns-3 c =
     let b = c .before .before .before .before in
     let a = b .before .before .before .before .args in
-    no-pair-at _ _ _ (pair-none (a .s .now) (a .at) _ _ (b .before .read-field .ensures) (b .read-field2 .ensures)
+    no-pair-at _ _ _ _ (pair-none (a .width) (a .s .now) (a .at) _ _ (b .before .read-field .ensures)
+    (b .read-field2 .ensures)
     (sym (c .before .before .before .of-length .ensures) ∙ c .before .enum-told .given .1)) (c .no-pair2 .ensures)
 
 pub read-pair-spec : {M : Type 1} → statement M
@@ -58,6 +62,7 @@ read-pair-spec =
     tie.close
     (tie.spec
     sub-if1
+    mul-if1
     no-pair-requires
     returns
     read-field-requires

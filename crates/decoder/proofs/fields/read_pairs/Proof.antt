@@ -7,6 +7,7 @@ use native.Mathlib.Omega.{arith}
 use lib.ListN.{length, length-set, take, drop}
 use borrow.Author.Needs.{needs}
 use borrow.Author.Tests.{not-true, not-false}
+use Rattle.catalogue.specs.Version.{widestField}
 use Rattle.section.specs.Limits.{greatestDisk}
 use Rattle.section.specs.Sections.{lengthOf}
 use Rattle.layout.specs.Layout.{blockCount}
@@ -17,13 +18,13 @@ use Rattle.decoder.proofs.fields.read_pairs.Statement.{statement}
 use Rattle.decoder.proofs.fields.read_pairs.Tie as tie
 
 abbrev Inv-loop : tie.InvT-loop
-Inv-loop s at count items₀ sum₀ i₀ items sum i =
-    (i ≤ count) × (count ≤ piecePlaces) × (at + 4 * i ≤ length s) × (length items ≡ piecePlaces)
+Inv-loop s at count width items₀ sum₀ end₀ i₀ items sum end i =
+    (i ≤ count) × (count ≤ piecePlaces) × (end ≤ length s) × (length items ≡ piecePlaces)
     × (sum ≤ greatestDisk * i) × (sum ≡ blockCount (take i items))
-    × (Left s at count i items ≡ PairsLeft count (drop at s))
+    × (Left width s count end i items ≡ PairsLeft width count (drop at s)) × (width ≤ widestField)
 
 abbrev μ-loop : tie.MeasureT-loop
-μ-loop s at count items₀ sum₀ i₀ items sum i = count - i
+μ-loop s at count width items₀ sum₀ end₀ i₀ items sum end i = count - i
 
 no-section-requires : tie.Need-no-section-requires Inv-loop μ-loop
 no-section-requires c κs = search needs
@@ -37,14 +38,9 @@ loop-holds c =
       refl,
       omega arith,
       refl,
-      left-start (a .s .now) (a .at) (a .count) [],
+      left-start (a .width) (a .s .now) (a .at) (a .count) [],
+      c .before .before .pre .2,
     )
-
-mul-read-pair : tie.Need-mul-read-pair Inv-loop μ-loop
-mul-read-pair c = search needs
-
-add-read-pair : tie.Need-add-read-pair Inv-loop μ-loop
-add-read-pair c = search needs
 
 read-pair-requires : tie.Need-read-pair-requires Inv-loop μ-loop
 read-pair-requires c κs = search needs
@@ -56,9 +52,9 @@ returns : tie.Need-returns Inv-loop μ-loop
 returns c =
     let b = c .before .before .before .before .before in
     let a = b .before .before .before .args in
-    no-pairs-at (a .s .now) (a .at) (a .count) _
+    no-pairs-at (a .width) (a .s .now) (a .at) (a .count) _
     (sym (b .loop .inv .6)
-    ∙ left-bad (a .s .now) (a .at) (a .count) (b .loop .i) (b .loop .items)
+    ∙ left-bad (a .width) (a .s .now) (a .count) (b .loop .end) (b .loop .i) (b .loop .items)
     (c .before .before .before .before .loop-test .taken) _
     (c .before .before .before .read-pair .ensures) (not-true _ (c .before .if1 .taken)))
     (c .no-pairs .ensures)
@@ -71,6 +67,16 @@ array-set-from-items c = search needs
 
 add-sum : tie.Need-add-sum Inv-loop μ-loop
 add-sum c = search needs
+
+mul-end : tie.Need-mul-end Inv-loop μ-loop
+mul-end c = search needs
+
+add-end : tie.Need-add-end Inv-loop μ-loop
+add-end c =
+    omega (
+      arith,
+      c .before .before .before .before .read-pair .ensures .inside (not-false _ (c .before .before .if1 .left)),
+    )
 
 add-i : tie.Need-add-i Inv-loop μ-loop
 add-i c = search needs
@@ -94,10 +100,11 @@ loop-again c =
       ap (λ n. n + p .result .length) (v .5)
           ∙ (ap (λ n. blockCount (take (b .loop .i) (b .loop .items)) + n) (p .ensures .equal)
           ∙ sym (sum-pushed lengthOf (b .loop .items) (b .loop .i) (p .result .section) l)),
-      left-more (a .s .now) (a .at) (a .count) (b .loop .i) (b .loop .items)
+      left-more (a .width) (a .s .now) (a .count) (b .loop .end) (b .loop .i) (b .loop .items)
           (c .before .before .before .before .before .loop-test .taken) _
           (p .ensures) ok l
           ∙ v .6,
+      v .7,
     )
 
 returns-2 : tie.Need-returns-2 Inv-loop μ-loop
@@ -106,10 +113,10 @@ returns-2 c =
     let a = b .before .before .before .args in
     let v = b .loop .inv in
     let e : b .loop .i ≡ a .count = omega arith in
-    some-pairs-at (a .s .now) (a .at) (a .count) _ (b .loop .items)
+    some-pairs-at (a .width) (a .s .now) (a .at) (a .count) _ (b .loop .end) (b .loop .items)
     (sym (v .6)
-    ∙ (ap (λ i. Left (a .s .now) (a .at) (a .count) i (b .loop .items)) e
-    ∙ left-end (a .s .now) (a .at) (a .count) (b .loop .items)))
+    ∙ (ap (λ i. Left (a .width) (a .s .now) (a .count) (b .loop .end) i (b .loop .items)) e
+    ∙ left-end (a .width) (a .s .now) (a .count) (b .loop .end) (b .loop .items)))
     (v .5 ∙ ap (λ i. blockCount (take i (b .loop .items))) e) (omega (arith, v .4)) (v .1) (omega (arith, v .3))
     (omega (arith, v .2))
 
@@ -121,14 +128,14 @@ read-pairs-spec =
     μ-loop
     no-section-requires
     loop-holds
-    mul-read-pair
-    add-read-pair
     read-pair-requires
     no-pairs-requires
     returns
     mul-items
     array-set-from-items
     add-sum
+    mul-end
+    add-end
     add-i
     loop-less
     loop-again

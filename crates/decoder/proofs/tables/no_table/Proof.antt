@@ -2,6 +2,7 @@
 use mathlib.Core.Path.{refl}
 use native.Mathlib.Omega.{arith}
 use borrow.Author.Needs.{needs}
+use Rattle.section.specs.Limits.{mostFiles}
 use Rattle.piece_lists.proofs.EachItem.{each-replicate}
 use Rattle.free_pieces.specs.Free.{freeOf}
 use Rattle.table.specs.Tables.{filesOf}
@@ -21,7 +22,7 @@ returns c = (
     sized = record {
       files = omega arith;
       free = omega arith;
-      each = each-replicate 64 (c .before .no-entry .result) (omega (arith, c .before .no-entry .ensures .1));
+      each = each-replicate mostFiles (c .before .no-entry .result) (omega (arith, c .before .no-entry .ensures .1));
     };
     array = refl;
     files = refl;

@@ -17,14 +17,25 @@ use Rattle.encoder.proofs.StoreLists.{list-more, list-none, list-room}
 use Rattle.encoder.proofs.StoreTable.{end-room, files-count, files-room, free-room, header-room, stored}
 use Rattle.encoder.proofs.storing.store.Statement.{statement}
 use Rattle.encoder.proofs.storing.store.Tie as tie
+use Rattle.catalogue.proofs.Roomy.{served}
+use Rattle.catalogue.specs.Version.{OneOf, versions}
+use Rattle.catalogue.specs.declared.Version.{Version}
+use Rattle.layout.proofs.SoundHeights.{sound-higher}
+use Rattle.layout.specs.Layout.{Layout}
+use Rattle.layout.specs.Sound.{Sound}
+use Rattle.section.specs.Limits.{heightCount, mostFiles}
+
+-- a layout that is sound in a version is sound for all heights
+wide : {v : Version} {y : Layout} → OneOf v versions → Sound (v .heights) y → Sound heightCount y
+wide {v} {y} known s = sound-higher (v .heights) heightCount y (served known .most-heights) s
 
 abbrev Inv-loop : tie.InvT-loop
-Inv-loop cat₀ t count next₀ i₀ cat next i =
-    (count ≡ t .count) × (length (t .files) ≡ 64) × (i ≤ count)
-    × Written cat₀ next₀ (entriesBytes 2 (map fileOf (take i (t .files)))) cat next
+Inv-loop cat₀ t count width next₀ i₀ cat next i =
+    (count ≡ t .count) × (length (t .files) ≡ mostFiles) × (i ≤ count)
+    × Written cat₀ next₀ (entriesBytes width (map fileOf (take i (t .files)))) cat next
 
 abbrev μ-loop : tie.MeasureT-loop
-μ-loop cat₀ t count next₀ i₀ cat next i = count - i
+μ-loop cat₀ t count width next₀ i₀ cat next i = count - i
 
 cast-write-header : tie.Need-cast-write-header Inv-loop μ-loop
 cast-write-header c = search needs
@@ -33,21 +44,24 @@ write-header-requires : tie.Need-write-header-requires Inv-loop μ-loop
 unfolding layoutOf
 write-header-requires c κs =
     let s = c .before .before in
-    let t = s .args .t2 in
-    let n : length (t .files) ≡ 64 = search (needs, length-of-mapped) in
+    let t = s .args .t3 in
+    let n : length (t .files) ≡ mostFiles = search (needs, length-of-mapped) in
     let k = files-count t (s .pre .1 .0) n in
-    header-room (layoutOf t) (t .count) k (s .pre .1 .1) (s .args .cat .now) (s .pre .0)
+    header-room (s .args .version) (s .pre .0 .0) (layoutOf t) (t .count) k (s .pre .1 .1) (s .args .cat .now)
+    (s .pre .0 .1)
 
 loop-holds : tie.Need-loop-holds Inv-loop μ-loop
 unfolding entriesBytes
-loop-holds c = (
-  refl,
-  search (needs, length-of-mapped),
-  omega arith,
-  list-none (λ (e : Entry). entryBytes 2 (fileOf e)) (λ l. entriesBytes 2 (map fileOf l)) refl (λ a l. refl)
-      (c .before .before .before .before .before .args .t2 .files) (c .before .before .write-header .last .0)
-      (c .before .before .write-header .result),
-)
+loop-holds c =
+    let h = c .before .before .write-header in
+    let s = c .before .before .before .before .before .args in
+    let width = s .version .width in (
+      refl,
+      search (needs, length-of-mapped),
+      omega arith,
+      list-none (λ (e : Entry). entryBytes width (fileOf e)) (λ l. entriesBytes width (map fileOf l)) refl
+          (λ a l. refl) (s .t3 .files) (h .last .0) (h .result),
+    )
 
 mul-e : tie.Need-mul-e Inv-loop μ-loop
 mul-e c = search needs
@@ -61,15 +75,17 @@ write-entry-requires c κs =
     let l = c .before .before .before .loop in
     let h = c .before .before .before .before .before .before .write-header in
     let s = c .before .before .before .before .before .before .before .before .before in
-    let t = s .args .t2 in
+    let t = s .args .t3 in
     let n = l .inv .1 in
-    let k = files-count t (s .pre .1 .0) n in (
-      each-taken (t .files) (t .count) _ _ (omega arith) (files-low t (s .pre .1 .0) (s .pre .1 .1) .each)
-          (omega arith),
-      list-room (λ (e : Entry). entryBytes 2 (fileOf e)) (λ l. entriesBytes 2 (map fileOf l)) refl (λ a l. refl)
-          (t .files) _ (h .last .0) (l .cat) (h .result) (t .count) (l .i) (l .next) (omega arith) (omega arith)
-          (files-room (layoutOf t) (t .count) k (s .pre .1 .1) (s .args .cat .now) (s .pre .0) (h .last .0)
-          (h .result) (h .ensures)) (l .inv .3),
+    let k = files-count t (s .pre .1 .0) n in
+    let width = s .args .version .width in (
+      each-taken (t .files) (t .count) _ _ (omega arith)
+          (files-low t (s .pre .1 .0) (wide (s .pre .0 .0) (s .pre .1 .1)) .each) (omega arith),
+      list-room (λ (e : Entry). entryBytes width (fileOf e)) (λ l. entriesBytes width (map fileOf l)) refl
+          (λ a l. refl) (t .files) _ (h .last .0) (l .cat) (h .result) (t .count) (l .i) (l .next) (omega arith)
+          (omega arith)
+          (files-room (s .args .version) (s .pre .0 .0) (layoutOf t) (t .count) k (s .pre .1 .1) (s .args .cat .now)
+          (s .pre .0 .1) (h .last .0) (h .result) (h .ensures)) (l .inv .3),
     )
 
 add-i : tie.Need-add-i Inv-loop μ-loop
@@ -84,20 +100,21 @@ loop-again c =
     let l = c .before .before .before .before .before .before .loop in
     let h = c .before .before .before .before .before .before .before .before .before .write-header in
     let s = c .before .before .before .before .before .before .before .before .before .before .before .before in
-    let t = s .args .t2 in
-    let n = l .inv .1 in (
+    let t = s .args .t3 in
+    let n = l .inv .1 in
+    let width = s .args .version .width in (
       refl,
       n,
       omega arith,
-      list-more (λ (e : Entry). entryBytes 2 (fileOf e)) (λ l. entriesBytes 2 (map fileOf l)) refl (λ a l. refl)
-          (t .files) _ (h .last .0) (l .cat) _ (h .result) (l .i) (l .next) _ (omega arith) (l .inv .3)
+      list-more (λ (e : Entry). entryBytes width (fileOf e)) (λ l. entriesBytes width (map fileOf l)) refl
+          (λ a l. refl) (t .files) _ (h .last .0) (l .cat) _ (h .result) (l .i) (l .next) _ (omega arith) (l .inv .3)
           (c .before .before .write-entry .ensures),
     )
 
 few-requires : tie.Need-few-requires Inv-loop μ-loop
 few-requires c κs =
     let s = c .before .before .before .before .before .before .before .before .before in
-    free-places (s .args .t2) (s .pre .1 .0) (s .pre .1 .1) (search (needs, length-of-mapped))
+    free-places (s .args .t3) (s .pre .1 .0) (wide (s .pre .0 .0) (s .pre .1 .1)) (search (needs, length-of-mapped))
 
 write-pairs-requires : tie.Need-write-pairs-requires Inv-loop μ-loop
 unfolding filesOf layoutOf
@@ -106,17 +123,16 @@ write-pairs-requires c κs =
     let l = c .before .before .before .before .loop in
     let h = c .before .before .before .before .before .before .before .write-header in
     let s = c .before .before .before .before .before .before .before .before .before .before in
-    let t = s .args .t2 in
-    let n = l .inv .1 in
-    let k = files-count t (s .pre .1 .0) n in
+    let t = s .args .t3 in
+    let k = files-count t (s .pre .1 .0) (l .inv .1) in
     let q : l .i ≡ t .count = omega arith in
     let w = rw q at (l .inv .3) in (
       omega (arith, p .ensures .count, p .ensures .few),
       (
-        rw (p .ensures .list) (free-low t (s .pre .1 .0) (s .pre .1 .1)),
+        rw (p .ensures .list) (free-low t (s .pre .1 .0) (wide (s .pre .0 .0) (s .pre .1 .1))),
         rw (p .ensures .list)
-            (free-room (layoutOf t) (t .count) k (s .pre .1 .1) (s .args .cat .now) (s .pre .0) (h .last .0)
-            (h .result) (h .ensures) (l .cat) (l .next) w),
+            (free-room (s .args .version) (s .pre .0 .0) (layoutOf t) (t .count) k (s .pre .1 .1) (s .args .cat .now)
+            (s .pre .0 .1) (h .last .0) (h .result) (h .ensures) (l .cat) (l .next) w),
       ),
     )
 
@@ -129,13 +145,13 @@ clear-requires c κs =
     let h = c .before .before .before .before .before .before .before .before .before .before .before .write-header in
     let s = c .before .before .before .before .before .before .before .before .before .before .before .before .before
     .before in
-    let t = s .args .t2 in
-    let n = l .inv .1 in
-    let k = files-count t (s .pre .1 .0) n in
+    let t = s .args .t3 in
+    let k = files-count t (s .pre .1 .0) (l .inv .1) in
     let q : l .i ≡ t .count = omega arith in
     let w = rw q at (l .inv .3) in
-    end-room (layoutOf t) (t .count) k (s .pre .1 .1) (s .args .cat .now) (s .pre .0) (h .last .0)
-    (h .result) (h .ensures) (l .cat) (l .next) w (f .last .0) (f .result) (rw (p .ensures .list) at (f .ensures))
+    end-room (s .args .version) (s .pre .0 .0) (layoutOf t) (t .count) k (s .pre .1 .1) (s .args .cat .now)
+    (s .pre .0 .1) (h .last .0) (h .result) (h .ensures) (l .cat) (l .next) w (f .last .0) (f .result)
+    (rw (p .ensures .list) at (f .ensures))
 
 same-length : tie.Need-same-length Inv-loop μ-loop
 same-length c = search needs
@@ -150,14 +166,13 @@ returns c =
     let l = d .before .before .before .before .before .loop in
     let h = d .before .before .before .before .before .before .before .before .write-header in
     let s = d .before .before .before .before .before .before .before .before .before .before .before in
-    let t = s .args .t2 in
-    let n = l .inv .1 in
-    let k = files-count t (s .pre .1 .0) n in
+    let t = s .args .t3 in
+    let k = files-count t (s .pre .1 .0) (l .inv .1) in
     let q : l .i ≡ t .count = omega arith in
     let w = rw q at (l .inv .3) in
-    stored (layoutOf t) (t .count) k (s .pre .1 .1) (s .args .cat .now) (s .pre .0) (h .last .0)
-    (h .result) (h .ensures) (l .cat) (l .next) w (f .last .0) (f .result) (rw (p .ensures .list) at (f .ensures))
-    (z .last .0) (z .ensures)
+    stored (s .args .version) (s .pre .0 .0) (layoutOf t) (t .count) k (s .pre .1 .1) (s .args .cat .now)
+    (s .pre .0 .1) (h .last .0) (h .result) (h .ensures) (l .cat) (l .next) w (f .last .0) (f .result)
+    (rw (p .ensures .list) at (f .ensures)) (z .last .0) (z .ensures)
 
 pub store-spec : {M : Type 1} → statement M
 store-spec =

@@ -13,7 +13,7 @@ use Rattle.encoder.proofs.storing.write_entry.Tie as tie
 write-field-requires : tie.Need-write-field-requires
 write-field-requires c κs =
     let s = c .before .before in
-    entry-room (s .args .e) (s .args .cat .now) (s .args .at) (s .pre .1)
+    entry-room (s .args .width) (s .args .e) (s .args .cat .now) (s .args .at) (s .pre .1)
 
 blocks-of-requires : tie.Need-blocks-of-requires
 blocks-of-requires c κs = search needs
@@ -24,8 +24,9 @@ write-field-requires-2 c κs =
     let e = s .args .e in
     let w = c .before .before .before .before .write-field in
     rw (c .blocks-of .ensures .equal)
-    (room-left (w .last .0) (bigEndian 2 (fileBlocks (fileOf e))) (pairsBytes 2 (sortBy byFirst (piecesIn e)))
-    (w .result) (entry-room-rest e (s .pre .1) (w .ensures)))
+    (room-left (w .last .0) (bigEndian (s .args .width) (fileBlocks (fileOf e)))
+    (pairsBytes (s .args .width) (sortBy byFirst (piecesIn e))) (w .result)
+    (entry-room-rest (s .args .width) e (s .pre .1) (w .ensures)))
 
 sorted-requires : tie.Need-sorted-requires
 sorted-requires c κs = search needs
@@ -40,10 +41,11 @@ write-pairs-requires c κs =
     let q = c .sorted in (
       omega (arith, q .ensures .count, s .pre .0 .places),
       (
-        sorted-low e (n .result) (n .ensures .equal) (q .result) (q .ensures) (s .pre .0),
+        sorted-low (s .args .width) e (n .result) (n .ensures .equal) (q .result) (q .ensures) (s .pre .0),
         rw (q .ensures .list)
-            (room-right (bigEndian 2 (fileBlocks (fileOf e))) (pairsBytes 2 (sortBy byFirst (piecesIn e))) v
-            (entry-room-rest e (s .pre .1) w)),
+            (room-right (bigEndian (s .args .width) (fileBlocks (fileOf e)))
+            (pairsBytes (s .args .width) (sortBy byFirst (piecesIn e))) v
+            (entry-room-rest (s .args .width) e (s .pre .1) w)),
       ),
     )
 
@@ -56,7 +58,7 @@ returns c =
     .before .before .before in
     let n = c .before .before .before .before .before .before .before .before .blocks-of in
     let q = c .before .before .before .sorted in
-    rw (entry-parts (s .args .e) (n .result) (n .ensures .equal) (q .result) (q .ensures))
+    rw (entry-parts (s .args .width) (s .args .e) (n .result) (n .ensures .equal) (q .result) (q .ensures))
     (written-more
     (c .before .before .before .before .before .before .before .before .before .before .before .before .write-field
     .ensures)

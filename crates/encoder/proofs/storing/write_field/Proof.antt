@@ -1,45 +1,74 @@
--- `encoder::storing::write_field` meets its contract: two stores write the two bytes of the field. Assumes nothing.
+-- `encoder::storing::write_field` meets its contract: the bytes of the field stand from place `i` on. Assumes nothing.
 use native.Mathlib.Omega.{arith}
-use lib.ListN.{length-set}
 use borrow.Author.Needs.{needs}
 use Rattle.catalogue.proofs.Fields.{bigEndian-length}
-use Rattle.encoder.proofs.StoreWritten.{written-field}
+use Rattle.encoder.proofs.StoreWritten.{FieldFrom, field-all, field-more, field-none}
 use Rattle.encoder.proofs.storing.write_field.Statement.{statement}
 use Rattle.encoder.proofs.storing.write_field.Tie as tie
 
-cast-cat : tie.Need-cast-cat
+abbrev Inv-loop : tie.InvT-loop
+Inv-loop cat₀ at width value rest₀ i₀ cat rest i = FieldFrom cat₀ at width value cat rest i
+
+abbrev μ-loop : tie.MeasureT-loop
+μ-loop cat₀ at width value rest₀ i₀ cat rest i = i
+
+loop-holds : tie.Need-loop-holds Inv-loop μ-loop
+loop-holds c = field-none _ _ _ _
+
+sub-i : tie.Need-sub-i Inv-loop μ-loop
+sub-i c = search needs
+
+cast-cat : tie.Need-cast-cat Inv-loop μ-loop
 cast-cat c = search needs
 
-slice-write-cat : tie.Need-slice-write-cat
-slice-write-cat c = omega (arith, bigEndian-length 2 (c .args .value))
+add-cat : tie.Need-add-cat Inv-loop μ-loop
+add-cat c =
+    let s = c .before .before in
+    omega (arith, bigEndian-length (s .args .width) (s .args .value))
 
-cast-cat-2 : tie.Need-cast-cat-2
-cast-cat-2 c = search needs
+slice-write-cat : tie.Need-slice-write-cat Inv-loop μ-loop
+slice-write-cat c =
+    let s = c .before .before in
+    omega (arith, bigEndian-length (s .args .width) (s .args .value))
 
-add-cat : tie.Need-add-cat
-add-cat c = search needs
+loop-less : tie.Need-loop-less Inv-loop μ-loop
+loop-less c = search needs
 
-slice-write-cat-2 : tie.Need-slice-write-cat-2
-slice-write-cat-2 c = simp length-set (omega (arith, bigEndian-length 2 (c .args .value)))
+loop-again : tie.Need-loop-again Inv-loop μ-loop
+loop-again c =
+    let l = c .before .loop in
+    let s = c .before .before in
+    field-more (s .args .cat .now) (l .cat) (s .args .at) (s .args .width) (s .args .value) (l .rest) (l .i) (s .pre)
+    (omega arith) (omega arith) (l .inv)
 
-add-result : tie.Need-add-result
-add-result c = search needs
+add-result : tie.Need-add-result Inv-loop μ-loop
+add-result c =
+    let s = c .before .before in
+    omega (arith, bigEndian-length (s .args .width) (s .args .value))
 
-same-length : tie.Need-same-length
+same-length : tie.Need-same-length Inv-loop μ-loop
 same-length c = search needs
 
-returns : tie.Need-returns
-returns c = written-field _ _ _ (c .pre)
+returns : tie.Need-returns Inv-loop μ-loop
+returns c =
+    let l = c .before .loop in
+    let s = c .before .before in
+    field-all (s .args .cat .now) (l .cat) (s .args .at) (s .args .width) (s .args .value) (l .rest) (l .i)
+    (omega arith) (l .inv)
 
 pub write-field-spec : {M : Type 1} → statement M
 write-field-spec =
     tie.close
     (tie.spec
+    Inv-loop
+    μ-loop
+    loop-holds
+    sub-i
     cast-cat
-    slice-write-cat
-    cast-cat-2
     add-cat
-    slice-write-cat-2
+    slice-write-cat
+    loop-less
+    loop-again
     add-result
     same-length
     returns)

@@ -1,6 +1,8 @@
 -- `encoder::storing::write_header` meets its contract: version, number of blocks, number of files. Assumes nothing.
+use native.Mathlib.Omega.{arith}
 use borrow.Author.Needs.{needs}
-use Rattle.encoder.proofs.StoreTable.{blocks-room, count-room, version-room}
+use Rattle.catalogue.proofs.Fields.{bigEndian-length}
+use Rattle.encoder.proofs.StoreTable.{header-length}
 use Rattle.encoder.proofs.StoreWritten.{written-more}
 use Rattle.encoder.proofs.storing.write_header.Statement.{statement}
 use Rattle.encoder.proofs.storing.write_header.Tie as tie
@@ -8,22 +10,37 @@ use Rattle.encoder.proofs.storing.write_header.Tie as tie
 write-field-requires : tie.Need-write-field-requires
 write-field-requires c κs =
     let s = c .before .before in
-    version-room (s .args .blocks) (s .args .count) (s .args .cat .now) (s .pre)
+    simp bigEndian-length
+    (omega (arith, header-length (s .args .version) (s .args .blocks) (s .args .count), s .pre))
 
 write-field-requires-2 : tie.Need-write-field-requires-2
 write-field-requires-2 c κs =
-    let w = c .before .before .before .write-field in
+    let w = c .before .before .before .write-field .ensures in
     let s = c .before .before .before .before .before .before in
-    blocks-room (s .args .blocks) (s .args .count) (s .args .cat .now) (s .pre) (w .last .0) (w .result)
-    (w .ensures)
+    simp bigEndian-length
+    (omega (
+      arith,
+      header-length (s .args .version) (s .args .blocks) (s .args .count),
+      s .pre,
+      w .exact,
+      simp bigEndian-length at (w .next),
+    ))
 
 write-field-requires-3 : tie.Need-write-field-requires-3
 write-field-requires-3 c κs =
-    let v = c .before .before .before .write-field2 in
-    let w = c .before .before .before .before .before .before .before .write-field in
+    let v = c .before .before .before .write-field2 .ensures in
+    let w = c .before .before .before .before .before .before .before .write-field .ensures in
     let s = c .before .before .before .before .before .before .before .before .before .before in
-    count-room (s .args .blocks) (s .args .count) (s .args .cat .now) (s .pre) (w .last .0) (w .result) (w .ensures)
-    (v .last .0) (v .result) (v .ensures)
+    simp bigEndian-length
+    (omega (
+      arith,
+      header-length (s .args .version) (s .args .blocks) (s .args .count),
+      s .pre,
+      w .exact,
+      simp bigEndian-length at (w .next),
+      v .exact,
+      simp bigEndian-length at (v .next),
+    ))
 
 same-length : tie.Need-same-length
 same-length c = search needs

@@ -12,14 +12,20 @@ length-requires c κs = search needs
 write-field-requires : tie.Need-write-field-requires
 write-field-requires c κs =
     let s = c .before .before .before .before in
-    simp bigEndian-length (omega (arith, pair-length (s .args .s), s .pre .1))
+    simp bigEndian-length (omega (arith, pair-length (s .args .width) (s .args .s), s .pre .1))
 
 write-field-requires-2 : tie.Need-write-field-requires-2
 write-field-requires-2 c κs =
     let w = c .before .before .before .write-field .ensures in
     let s = c .before .before .before .before .before .before .before .before in
     simp bigEndian-length
-    (omega (arith, pair-length (s .args .s), s .pre .1, w .exact, simp bigEndian-length at (w .next)))
+    (omega (
+      arith,
+      pair-length (s .args .width) (s .args .s),
+      s .pre .1,
+      w .exact,
+      simp bigEndian-length at (w .next),
+    ))
 
 same-length : tie.Need-same-length
 same-length c = search needs
@@ -29,7 +35,7 @@ returns c =
     let second = c .before .before .write-field2 .ensures in
     let first = c .before .before .before .before .before .before .write-field .ensures in
     let n = c .before .before .before .before .before .before .before .before .length in
-    pair-written
+    pair-written _
     (c .before .before .before .before .before .before .before .before .before .before .before .args .s) (n .result)
     (n .ensures .equal) first second
 

@@ -4,14 +4,15 @@ use mathlib.Core.Path.{_∙_, ap}
 use Prim.Native.Nat.{ℕ}
 use borrow.Author.Needs.{needs}
 use borrow.Author.Tests.{not-false, not-true}
-use Rattle.catalogue.specs.Version.{version1}
+use Rattle.catalogue.specs.Version.{versionOf}
+use Rattle.catalogue.specs.declared.Version.{Version}
 use Rattle.table.specs.Tables.{layoutOf}
 use Rattle.manager.specs.Conditions.{Outcome}
 use Rattle.manager.specs.Outcomes.{addOutcome}
 use Rattle.looking.specs.Answers.{replyOf}
 use Rattle.calls.specs.Changing.{addOn}
 use Rattle.manager.proofs.OnRead.{add-on-read, add-refused}
-use Rattle.event_disk.proofs.Entering.{made-catalogue, made-disk, made-reply, shut-out}
+use Rattle.event_disk.proofs.Entering.{made-catalogue, made-disk, made-reply, own-rules, shut-out}
 use Rattle.event_disk.proofs.changing.add.Statement.{statement}
 use Rattle.event_disk.proofs.changing.add.Tie as tie
 
@@ -28,22 +29,27 @@ returns c =
     let cat = a .args .cat .now in
     let disk = a .args .disk .now in
     let shut = o .«open» .ensures .shut (not-true _ (c .if1 .taken)) in
-    let e = add-refused version1 cat (shut .number) (shut .first) (a .args .id) (a .args .content .now) disk in
-    let full = addOutcome version1 (a .args .id) (a .args .content .now) cat disk in
+    let e = add-refused (versionOf cat) cat (shut .number) (shut .first) (a .args .id) (a .args .content .now) disk in
+    let full = addOutcome (a .args .id) (a .args .content .now) cat disk in
     let s = shut-out cat disk [] (o .«open» .result .refusal) shut full e in
     (s .0, (s .1, s .2))
 
 add-in-requires : tie.Need-add-in-requires
 add-in-requires c κs =
-    let o = c .before .before .before .before in
-    o .«open» .ensures .entered (not-false _ (c .before .before .if1 .left)) .opened
+    let o = c .before .before .before .before .before in
+    o .«open» .ensures .entered (not-false _ (c .before .before .before .if1 .left)) .opened
 
 store-changed-requires : tie.Need-store-changed-requires
 store-changed-requires c κs =
     let r = c .before .before .before in
-    let o = r .before .before .before .before .before in
-    let entered = o .«open» .ensures .entered (not-false _ (r .before .before .before .if1 .left)) in
-    record { bytes = entered .bytes; sized = r .add-in .ensures .sized; rules = r .add-in .ensures .rules }
+    let o = r .before .before .before .before .before .before in
+    let entered = o .«open» .ensures .entered (not-false _ (r .before .before .before .before .if1 .left)) in
+    record {
+      version = o .«open» .ensures .version;
+      bytes = entered .bytes;
+      sized = r .add-in .ensures .sized;
+      rules = own-rules _ _ entered (r .add-in .result) (r .add-in .ensures);
+    }
 
 same-length-2 : tie.Need-same-length-2
 same-length-2 c = search needs
@@ -55,24 +61,24 @@ returns-2 : tie.Need-returns-2
 returns-2 c =
     let s = c .before .before in
     let r = s .before .before .before .before in
-    let o = r .before .before .before .before .before in
+    let o = r .before .before .before .before .before .before in
     let a = o .before .before .before .before .before in
     let cat = a .args .cat .now in
     let disk = a .args .disk .now in
-    let entered = o .«open» .ensures .entered (not-false _ (r .before .before .before .if1 .left)) in
+    let entered = o .«open» .ensures .entered (not-false _ (r .before .before .before .before .if1 .left)) in
     let l = layoutOf (o .«open» .result .table) in
-    let read = add-on-read version1 cat l (entered .bytes) (entered .reading) in
+    let read = add-on-read (versionOf cat) cat l (entered .bytes) (entered .reading) in
     let on = read (a .args .id) (a .args .content .now) disk in
-    let past : List ℕ → Outcome = λ z. addOn l (a .args .id) (a .args .content .now) z disk in
-    let full = addOutcome version1 (a .args .id) (a .args .content .now) cat disk in
+    let past : Version → List ℕ → Outcome = λ v z. addOn v l (a .args .id) (a .args .content .now) z disk in
+    let full = addOutcome (a .args .id) (a .args .content .now) cat disk in
     let q = r .add-in .result in
     let d′ = r .add-in .last .0 in
     let cat′ = s .store-changed .last .0 in
     let m = r .add-in .ensures in
     let st = s .store-changed .ensures .1 in
-    let answer = ap replyOf (s .store-changed .ensures .0) ∙ made-reply past cat cat′ d′ q m st full on in
-    let catalogue = made-catalogue past cat cat′ d′ q m st full on in
-    let after = made-disk past cat cat′ d′ q m st full on in
+    let answer = ap replyOf (s .store-changed .ensures .0) ∙ made-reply _ past cat cat′ d′ q m st full on in
+    let catalogue = made-catalogue _ past cat cat′ d′ q m st full on in
+    let after = made-disk _ past cat cat′ d′ q m st full on in
     (answer, (catalogue, after))
 
 pub add-spec : {M : Type 1} → statement M

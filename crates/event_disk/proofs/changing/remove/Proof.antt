@@ -4,14 +4,15 @@ use mathlib.Core.Path.{_∙_, ap}
 use Prim.Native.Nat.{ℕ}
 use borrow.Author.Needs.{needs}
 use borrow.Author.Tests.{not-false, not-true}
-use Rattle.catalogue.specs.Version.{version1}
+use Rattle.catalogue.specs.Version.{versionOf}
+use Rattle.catalogue.specs.declared.Version.{Version}
 use Rattle.table.specs.Tables.{layoutOf}
 use Rattle.manager.specs.Conditions.{Outcome}
 use Rattle.manager.specs.Outcomes.{removeOutcome}
 use Rattle.looking.specs.Answers.{replyOf}
 use Rattle.calls.specs.Changing.{removeOn}
 use Rattle.manager.proofs.OnRead.{remove-on-read, remove-refused}
-use Rattle.event_disk.proofs.Entering.{made-catalogue, made-disk, made-reply, shut-out}
+use Rattle.event_disk.proofs.Entering.{made-catalogue, made-disk, made-reply, own-rules, shut-out}
 use Rattle.event_disk.proofs.RemovalLimit.{removal-within}
 use Rattle.event_disk.proofs.changing.remove.Statement.{statement}
 use Rattle.event_disk.proofs.changing.remove.Tie as tie
@@ -29,22 +30,27 @@ returns c =
     let cat = a .args .cat .now in
     let disk = a .args .disk .now in
     let shut = o .«open» .ensures .shut (not-true _ (c .if1 .taken)) in
-    let e = remove-refused version1 cat (shut .number) (shut .first) (a .args .id) disk in
-    let s = shut-out cat disk [] (o .«open» .result .refusal) shut (removeOutcome version1 (a .args .id) cat disk) e in
+    let e = remove-refused (versionOf cat) cat (shut .number) (shut .first) (a .args .id) disk in
+    let s = shut-out cat disk [] (o .«open» .result .refusal) shut (removeOutcome (a .args .id) cat disk) e in
     let answer = s .0 in
     (answer, (s .1, (s .2, removal-within cat (a .args .id) disk _ answer)))
 
 remove-in-requires : tie.Need-remove-in-requires
 remove-in-requires c κs =
-    let o = c .before .before .before .before in
-    o .«open» .ensures .entered (not-false _ (c .before .before .if1 .left)) .opened
+    let o = c .before .before .before .before .before in
+    o .«open» .ensures .entered (not-false _ (c .before .before .before .if1 .left)) .opened
 
 store-changed-requires : tie.Need-store-changed-requires
 store-changed-requires c κs =
     let r = c .before .before .before in
-    let o = r .before .before .before .before .before in
-    let entered = o .«open» .ensures .entered (not-false _ (r .before .before .before .if1 .left)) in
-    record { bytes = entered .bytes; sized = r .remove-in .ensures .sized; rules = r .remove-in .ensures .rules }
+    let o = r .before .before .before .before .before .before in
+    let entered = o .«open» .ensures .entered (not-false _ (r .before .before .before .before .if1 .left)) in
+    record {
+      version = o .«open» .ensures .version;
+      bytes = entered .bytes;
+      sized = r .remove-in .ensures .sized;
+      rules = own-rules _ _ entered (r .remove-in .result) (r .remove-in .ensures);
+    }
 
 same-length-2 : tie.Need-same-length-2
 same-length-2 c = search needs
@@ -56,23 +62,23 @@ returns-2 : tie.Need-returns-2
 returns-2 c =
     let s = c .before .before in
     let r = s .before .before .before .before in
-    let o = r .before .before .before .before .before in
+    let o = r .before .before .before .before .before .before in
     let a = o .before .before .before .before in
     let cat = a .args .cat .now in
     let disk = a .args .disk .now in
-    let entered = o .«open» .ensures .entered (not-false _ (r .before .before .before .if1 .left)) in
+    let entered = o .«open» .ensures .entered (not-false _ (r .before .before .before .before .if1 .left)) in
     let l = layoutOf (o .«open» .result .table) in
-    let on = remove-on-read version1 cat l (entered .bytes) (entered .reading) (a .args .id) disk in
-    let past : List ℕ → Outcome = λ z. removeOn l (a .args .id) z disk in
-    let full = removeOutcome version1 (a .args .id) cat disk in
+    let on = remove-on-read (versionOf cat) cat l (entered .bytes) (entered .reading) (a .args .id) disk in
+    let past : Version → List ℕ → Outcome = λ v z. removeOn v l (a .args .id) z disk in
+    let full = removeOutcome (a .args .id) cat disk in
     let q = r .remove-in .result in
     let d′ = r .remove-in .last .0 in
     let cat′ = s .store-changed .last .0 in
     let m = r .remove-in .ensures in
     let st = s .store-changed .ensures .1 in
-    let answer = ap replyOf (s .store-changed .ensures .0) ∙ made-reply past cat cat′ d′ q m st full on in
-    let catalogue = made-catalogue past cat cat′ d′ q m st full on in
-    let after = made-disk past cat cat′ d′ q m st full on in
+    let answer = ap replyOf (s .store-changed .ensures .0) ∙ made-reply _ past cat cat′ d′ q m st full on in
+    let catalogue = made-catalogue _ past cat cat′ d′ q m st full on in
+    let after = made-disk _ past cat cat′ d′ q m st full on in
     (answer, (catalogue, (after, removal-within cat (a .args .id) disk _ answer)))
 
 pub remove-spec : {M : Type 1} → statement M

@@ -2,7 +2,7 @@
 use mathlib.Core.Path.{_∙_, sym}
 use borrow.Author.Needs.{needs}
 use borrow.Author.Tests.{not-false, not-true}
-use Rattle.catalogue.specs.Version.{version1}
+use Rattle.catalogue.specs.Version.{versionOf}
 use Rattle.table.specs.Tables.{layoutOf}
 use Rattle.manager.proofs.OnRead.{breaks-on-read, breaks-refused}
 use Rattle.event_disk.proofs.reading.breaks.Statement.{statement}
@@ -16,7 +16,7 @@ returns c =
     let o = c .before .before in
     let a = o .before .before .args in
     let shut = o .«open» .ensures .shut (not-true _ (c .if1 .taken)) in
-    shut .reply ∙ sym (breaks-refused version1 (a .cat .now) (shut .number) (shut .first) (a .id))
+    shut .reply ∙ sym (breaks-refused (versionOf (a .cat .now)) (a .cat .now) (shut .number) (shut .first) (a .id))
 
 breaks-in-requires : tie.Need-breaks-in-requires
 breaks-in-requires c κs =
@@ -29,7 +29,8 @@ returns-2 c =
     let a = o .before .before .args in
     let entered = o .«open» .ensures .entered (not-false _ (c .before .before .if1 .left)) in
     let l = layoutOf (o .«open» .result .table) in
-    c .breaks-in .ensures ∙ sym (breaks-on-read version1 (a .cat .now) l (entered .bytes) (entered .reading) (a .id))
+    c .breaks-in .ensures ∙ sym (breaks-on-read (versionOf (a .cat .now)) (a .cat .now) l (entered .bytes)
+    (entered .reading) (a .id))
 
 pub breaks-spec : {M : Type 1} → statement M
 breaks-spec = tie.close (tie.spec open-requires returns breaks-in-requires returns-2)

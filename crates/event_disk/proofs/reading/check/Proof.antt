@@ -2,7 +2,7 @@
 use mathlib.Core.Path.{_∙_, refl, sym}
 use borrow.Author.Needs.{needs}
 use borrow.Author.Tests.{not-false, not-true}
-use Rattle.catalogue.specs.Version.{version1}
+use Rattle.catalogue.specs.Version.{versionOf}
 use Rattle.table.specs.Tables.{layoutOf}
 use Rattle.manager.proofs.OnRead.{check-on-read, check-refused}
 use Rattle.event_disk.proofs.reading.check.Statement.{statement}
@@ -16,7 +16,8 @@ returns c =
     let o = c .before .before in
     let a = o .before .before .before .args in
     let shut = o .«open» .ensures .shut (not-true _ (c .if1 .taken)) in
-    shut .reply ∙ sym (check-refused version1 (a .cat .now) (shut .number) (shut .first) (a .disk .now))
+    shut .reply ∙ sym (check-refused (versionOf (a .cat .now)) (a .cat .now) (shut .number) (shut .first)
+    (a .disk .now))
 
 check-in-requires : tie.Need-check-in-requires
 check-in-requires c κs =
@@ -29,7 +30,7 @@ returns-2 c =
     let a = o .before .before .before .args in
     let entered = o .«open» .ensures .entered (not-false _ (c .before .before .if1 .left)) in
     let l = layoutOf (o .«open» .result .table) in
-    let read = check-on-read version1 (a .cat .now) l (entered .bytes) (entered .reading) in
+    let read = check-on-read (versionOf (a .cat .now)) (a .cat .now) l (entered .bytes) (entered .reading) in
     c .check-in .ensures (a .disk .now) refl ∙ sym (read (a .disk .now))
 
 pub check-spec : {M : Type 1} → statement M

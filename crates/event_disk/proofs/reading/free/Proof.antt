@@ -3,7 +3,7 @@ use mathlib.Core.Path.{_∙_, ap, sym}
 use Rattle.manager.specs.Conditions.{answered}
 use borrow.Author.Needs.{needs}
 use borrow.Author.Tests.{not-false, not-true}
-use Rattle.catalogue.specs.Version.{version1}
+use Rattle.catalogue.specs.Version.{versionOf}
 use Rattle.table.specs.Tables.{layoutOf}
 use Rattle.manager.proofs.OnRead.{free-on-read, free-refused}
 use Rattle.event_disk.proofs.reading.free.Statement.{statement}
@@ -17,7 +17,7 @@ returns c =
     let o = c .before .before in
     let a = o .before .before .args in
     let shut = o .«open» .ensures .shut (not-true _ (c .if1 .taken)) in
-    shut .reply ∙ sym (free-refused version1 (a .cat .now) (shut .number) (shut .first))
+    shut .reply ∙ sym (free-refused (versionOf (a .cat .now)) (a .cat .now) (shut .number) (shut .first))
 
 free-in-requires : tie.Need-free-in-requires
 free-in-requires c κs = c .before .before .before .«open» .ensures .entered (not-false _ (c .before .if1 .left)) .opened
@@ -28,7 +28,7 @@ returns-2 c =
     let a = o .before .before .args in
     let entered = o .«open» .ensures .entered (not-false _ (c .before .before .if1 .left)) in
     let l = layoutOf (o .«open» .result .table) in
-    let read = free-on-read version1 (a .cat .now) l (entered .bytes) (entered .reading) in
+    let read = free-on-read (versionOf (a .cat .now)) (a .cat .now) l (entered .bytes) (entered .reading) in
     ap answered (c .free-in .ensures .equal) ∙ sym read
 
 pub free-spec : {M : Type 1} → statement M

@@ -2,7 +2,7 @@
 use mathlib.Core.Path.{_∙_, ap, sym}
 use borrow.Author.Needs.{needs}
 use borrow.Author.Tests.{not-false, not-true}
-use Rattle.catalogue.specs.Version.{version1}
+use Rattle.catalogue.specs.Version.{versionOf}
 use Rattle.table.specs.Tables.{layoutOf}
 use Rattle.manager.specs.Outcomes.{readOutcome}
 use Rattle.manager.proofs.OnRead.{read-on-read, read-refused}
@@ -21,8 +21,8 @@ returns c =
     let disk = a .disk .now in
     let out = a .out .now in
     let shut = o .«open» .ensures .shut (not-true _ (c .if1 .taken)) in
-    let e = read-refused version1 cat (shut .number) (shut .first) (a .id) (a .first) out disk in
-    let full = readOutcome version1 (a .id) (a .first) out cat disk in
+    let e = read-refused (versionOf cat) cat (shut .number) (shut .first) (a .id) (a .first) out disk in
+    let full = readOutcome (a .id) (a .first) out cat disk in
     let s = shut-out cat disk out (o .«open» .result .refusal) shut full e in
     (s .0, s .3)
 
@@ -42,7 +42,7 @@ returns-2 c =
     let cat = a .cat .now in
     let entered = o .«open» .ensures .entered (not-false _ (r .before .before .before .if1 .left)) in
     let l = layoutOf (o .«open» .result .table) in
-    let on = read-on-read version1 cat l (entered .bytes) (entered .reading) in
+    let on = read-on-read (versionOf cat) cat l (entered .bytes) (entered .reading) in
     let e = on (a .id) (a .first) (a .out .now) (a .disk .now) in
     let m = r .read-in .ensures in
     (m .0 cat ∙ sym (ap (λ x. x .reply) e), m .1 cat ∙ sym (ap (λ x. x .output) e))

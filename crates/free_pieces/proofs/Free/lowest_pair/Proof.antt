@@ -9,18 +9,19 @@ use native.Mathlib.Omega.{arith}
 use lib.ListN.{length, take}
 use lib.Seq.{length-take-le}
 use borrow.Author.Needs.{needs}
+use Rattle.section.specs.Limits.{heightCount}
 use Rattle.layout.proofs.Splitting.{countOf}
 use Rattle.section.specs.Sections.{section}
 use Rattle.piece_lists.proofs.Arrays.{length-of-mapped}
 use Rattle.free_pieces.proofs.Draws.{pair-end, pair-here, pair-on}
 use Rattle.free_pieces.proofs.Fewer.{count-other, count-same, few-pair}
-use Rattle.free_pieces.specs.Free.{freeOf, lowestPair, pairOf}
+use Rattle.free_pieces.specs.Free.{freeOf, lowestPair, pairOf, freePlaces}
 use Rattle.free_pieces.proofs.Free.lowest_pair.Statement.{statement}
 use Rattle.free_pieces.proofs.Free.lowest_pair.Tie as tie
 
 abbrev Inv-pieces : tie.InvT-pieces
 Inv-pieces self s m h n₀ j₀ n j =
-    (length (self .items) ≡ 26) × (m ≡ self .count) × (m ≤ 26) × (j ≤ m) × (n ≤ j)
+    (length (self .items) ≡ freePlaces) × (m ≡ self .count) × (m ≤ freePlaces) × (j ≤ m) × (n ≤ j)
     × (n ≡ countOf h (take j (self .items)))
 
 abbrev μ-pieces : tie.MeasureT-pieces
@@ -28,15 +29,15 @@ abbrev μ-pieces : tie.MeasureT-pieces
 
 abbrev Inv-heights : tie.InvT-heights
 Inv-heights self s m h₀ h =
-    (length (self .items) ≡ 26) × (m ≡ self .count) × (h ≤ 13)
-    × (lowestPair (13 - h) h (freeOf self) ≡ lowestPair 13 0 (freeOf self))
+    (length (self .items) ≡ freePlaces) × (m ≡ self .count) × (h ≤ heightCount)
+    × (lowestPair (heightCount - h) h (freeOf self) ≡ lowestPair heightCount 0 (freeOf self))
 
 abbrev μ-heights : tie.MeasureT-heights
-μ-heights self s m h₀ h = 13 - h
+μ-heights self s m h₀ h = heightCount - h
 
 heights-holds : tie.Need-heights-holds Inv-pieces μ-pieces Inv-heights μ-heights
 heights-holds c =
-    let e : length (c .args .t1 .items) ≡ 26 = search (needs, length-of-mapped) in
+    let e : length (c .args .t1 .items) ≡ freePlaces = search (needs, length-of-mapped) in
     (e, refl, omega arith, refl)
 
 pieces-holds : tie.Need-pieces-holds Inv-pieces μ-pieces Inv-heights μ-heights
@@ -86,7 +87,8 @@ returns c =
     let p = c .before .lowest-two in
     record {
       meaning =
-          pair-here (13 - (l .h + 1)) (l .h) (freeOf self) (p .result) (p .ensures .meaning) (13 - l .h) (omega arith) (c .if3 .taken)
+          pair-here (heightCount - (l .h + 1)) (l .h) (freeOf self) (p .result) (p .ensures .meaning)
+          (heightCount - l .h) (omega arith) (c .if3 .taken)
           ∙ l .inv .3;
       exact = p .ensures .exact;
       less = p .ensures .less;
@@ -109,11 +111,13 @@ heights-again c =
     let s = section 0 0 in
     let all : k .j ≡ self .count = omega (arith, k .inv .3, c .before .pieces-test .left) in
     let count : k .n ≡ countOf h free = k .inv .5 ∙ ap (λ i. countOf h (take i (self .items))) all in
-    let next = elim (c .if2 .came) as (λ _. lowestPair (13 - (h + 1)) (h + 1) free ≡ lowestPair (13 - h) h free) [
-      | inl x ↦ pair-on (13 - (h + 1)) h free (x .1 .result) (x .1 .ensures .meaning) (13 - h) (h + 1) (omega arith)
+    let next = elim (c .if2 .came) as (λ _. lowestPair (heightCount - (h + 1)) (h + 1) free ≡ lowestPair
+    (heightCount - h) h free) [
+      | inl x ↦ pair-on (heightCount - (h + 1)) h free (x .1 .result) (x .1 .ensures .meaning) (heightCount - h)
+          (h + 1) (omega arith)
           (omega arith) (x .2 .left)
-      | inr x ↦ pair-on (13 - (h + 1)) h free (record { found = false; lower = s; upper = s; others = self })
-          (few-pair h free (omega (arith, count, x .left))) (13 - h) (h + 1) (omega arith)
+      | inr x ↦ pair-on (heightCount - (h + 1)) h free (record { found = false; lower = s; upper = s; others = self })
+          (few-pair h free (omega (arith, count, x .left))) (heightCount - h) (h + 1) (omega arith)
           (omega arith) refl
     ] in
     (l .inv .0, refl, omega arith, next ∙ l .inv .3)
@@ -124,7 +128,7 @@ returns-2 c =
     let self = c .before .before .args .t1 in
     let l = c .before .heights in
     record {
-      meaning = pair-end (13 - l .h) (l .h) (freeOf self) (omega arith) ∙ l .inv .3;
+      meaning = pair-end (heightCount - l .h) (l .h) (freeOf self) (omega arith) ∙ l .inv .3;
       exact = length-take-le (self .count) (self .items) (omega (arith, l .inv .0, c .before .before .pre));
       less = λ x. let z : _≡_ {A = ℕ} 0 1 = cc in absurd (omega arith);
     }

@@ -3,12 +3,12 @@
 -- quotient by the height's length is odd. Assumes nothing.
 use mathlib.Core.Bool.{false, true}
 use mathlib.Core.Path.{_∙_, _≡_, ap, refl, sym}
-use Prim.Native.Nat.{_%_, _+_, _-_, _/_, _<_, _≤_, suc, ℕ}
+use Prim.Native.Nat.{_%_, _+_, _-_, _/_, _<_, _≤_, ℕ}
 use native.Mathlib.Omega.{arith}
 use lib.ListN.{length, length-set, set}
 use borrow.Author.Needs.{needs}
 use borrow.Author.Tests.{not-false, not-true}
-use Rattle.section.specs.Limits.{greatestHeight}
+use Rattle.section.specs.Limits.{greatestHeight, heightCount}
 use Rattle.free_pieces.proofs.LaidMore.{laid-failed, laid-more}
 use Rattle.free_pieces.proofs.PiecesLaid.{onward, onward-end, onward-failed, onward-skip, onward-start}
 use Rattle.free_pieces.proofs.PiecesLaid.{onward-take, stocked-with}
@@ -20,8 +20,8 @@ use Rattle.free_pieces.proofs.allocating.allocate.Tie as tie
 
 abbrev Inv-loop : tie.InvT-loop
 Inv-loop n laid₀ h₀ laid h =
-    (h ≤ suc greatestHeight) × (laid .count + h ≤ piecePlaces) × Stocked (laid .free) × (laid .ok ≡ true)
-    × (length (laid .items) ≡ 13) × (onward n h laid ≡ onward n (suc greatestHeight) laid₀)
+    (h ≤ heightCount) × (laid .count + h ≤ piecePlaces) × Stocked (laid .free) × (laid .ok ≡ true)
+    × (length (laid .items) ≡ piecePlaces) × (onward n h laid ≡ onward n heightCount laid₀)
 
 abbrev μ-loop : tie.MeasureT-loop
 μ-loop n laid₀ h₀ laid h = h

@@ -5,7 +5,7 @@ use native.Mathlib.Omega.{arith}
 use borrow.Author.Needs.{needs}
 use borrow.Fn.Kinds.{In}
 use borrow.Fn.PlainCycle.{Measures, is, falls, and}
-use Rattle.section.specs.Limits.{greatestHeight}
+use Rattle.section.specs.Limits.{greatestHeight, heightCount}
 use Rattle.free_pieces.proofs.PieceTaken.{split-half, split-none, split-top, taken-here, taken-split, to-halve}
 use Rattle.free_pieces.specs.Free.{freeOf, takenOf}
 use Rattle.free_pieces.proofs.taking.split_piece.Reads as split-piece
@@ -20,10 +20,10 @@ use Rattle.free_pieces.proofs.taking.+split_piece+take_piece.{statement
 use Rattle.free_pieces.proofs.taking.+split_piece+take_piece.Tie.{close}
 
 abbrev μ-split-piece : Measures 0 split-piece-kinds.ps ℕ
-μ-split-piece κs a = 2 * (13 - a .1 .0)
+μ-split-piece κs a = 2 * (heightCount - a .1 .0)
 
 abbrev μ-take-piece : Measures 0 take-piece-kinds.ps ℕ
-μ-take-piece κs a = 2 * (13 - a .1 .0) + 1
+μ-take-piece κs a = 2 * (heightCount - a .1 .0) + 1
 
 abbrev split-piece-at : ℕ → In 0 split-piece-kinds.ps
 split-piece-at t =

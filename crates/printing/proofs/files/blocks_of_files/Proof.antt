@@ -1,11 +1,13 @@
 -- `blocks_of_files` is the sum of the blocks of all files. The loop's invariant: the sum and the blocks of the rest
--- are the answer, and the sum is at most 53248 for each file passed. Assumes nothing.
+-- are the answer, and the sum is at most the greatest length in each place of each file passed. Assumes nothing.
 use mathlib.Core.List.{map}
 use mathlib.Core.Path.{_≡_, ap}
 use Prim.Native.Nat.{_*_, _+_, _-_, _≤_}
 use native.Mathlib.Omega.{arith}
 use borrow.Author.Needs.{needs}
 use lib.ListN.{drop, length, take}
+use Rattle.piece_lists.specs.Few.{piecePlaces}
+use Rattle.section.specs.Limits.{mostFiles, greatestDisk}
 use Rattle.layout.specs.Layout.{fileBlocks}
 use Rattle.layout.specs.Lists.{sumOf}
 use Rattle.piece_lists.proofs.Arrays.{ahead, behind, length-of-mapped}
@@ -18,7 +20,7 @@ use Rattle.printing.proofs.files.blocks_of_files.Tie as tie
 
 abbrev Inv-loop : tie.InvT-loop
 Inv-loop m files sum₀ i₀ sum i =
-    (length files ≡ 64) × (m ≤ 64) × (i ≤ m) × (sum ≤ 53248 * i)
+    (length files ≡ mostFiles) × (m ≤ mostFiles) × (i ≤ m) × (sum ≤ greatestDisk * piecePlaces * i)
     × (sum + sumOf fileBlocks (map fileOf (drop i (take m files))) ≡ sumOf fileBlocks (map fileOf (take m files)))
 
 abbrev μ-loop : tie.MeasureT-loop
@@ -26,7 +28,7 @@ abbrev μ-loop : tie.MeasureT-loop
 
 loop-holds : tie.Need-loop-holds Inv-loop μ-loop
 loop-holds c =
-    let e : length (c .before .args .t .files) ≡ 64 = search (needs, length-of-mapped) in
+    let e : length (c .before .args .t .files) ≡ mostFiles = search (needs, length-of-mapped) in
     (e, omega arith, omega arith, omega arith, omega arith)
 
 mul-blocks-of : tie.Need-mul-blocks-of Inv-loop μ-loop

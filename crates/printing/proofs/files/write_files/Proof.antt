@@ -6,6 +6,7 @@ use Prim.Native.Nat.{_+_, _-_, _≤_}
 use native.Mathlib.Omega.{arith}
 use borrow.Author.Needs.{needs}
 use lib.ListN.{drop, getD, length, take}
+use Rattle.section.specs.Limits.{mostFiles}
 use Rattle.manager.specs.Printing.{allFileLines, fileLines}
 use Rattle.piece_lists.proofs.Arrays.{length-of-mapped}
 use Rattle.piece_lists.proofs.EachItem.{each-taken}
@@ -19,7 +20,7 @@ use Rattle.printing.proofs.files.write_files.Tie as tie
 
 abbrev Inv-loop : tie.InvT-loop
 Inv-loop out₀ at m files next₀ i₀ out next i =
-    (length files ≡ 64) × (m ≤ 64) × (i ≤ m)
+    (length files ≡ mostFiles) × (m ≤ mostFiles) × (i ≤ m)
     × Left at (allFileLines (map fileOf (take m files))) out₀ out next
     (allFileLines (map fileOf (drop i (take m files))))
 
@@ -29,7 +30,7 @@ abbrev μ-loop : tie.MeasureT-loop
 loop-holds : tie.Need-loop-holds Inv-loop μ-loop
 loop-holds c =
     let a = c .before .before .args in
-    let e : length (a .t .files) ≡ 64 = search (needs, length-of-mapped) in (
+    let e : length (a .t .files) ≡ mostFiles = search (needs, length-of-mapped) in (
       e,
       omega arith,
       omega arith,

@@ -58,7 +58,39 @@ unfolding heightOf
 returns-13 c = sym (ap heightOf (c .match .keys13))
 
 returns-14 : tie.Need-returns-14
-returns-14 c = sym (no-length-of-match (c .before .args .n) (c .match .rest))
+unfolding heightOf
+returns-14 c = sym (ap heightOf (c .match .keys14))
+
+returns-15 : tie.Need-returns-15
+unfolding heightOf
+returns-15 c = sym (ap heightOf (c .match .keys15))
+
+returns-16 : tie.Need-returns-16
+unfolding heightOf
+returns-16 c = sym (ap heightOf (c .match .keys16))
+
+returns-17 : tie.Need-returns-17
+unfolding heightOf
+returns-17 c = sym (ap heightOf (c .match .keys17))
+
+returns-18 : tie.Need-returns-18
+unfolding heightOf
+returns-18 c = sym (ap heightOf (c .match .keys18))
+
+returns-19 : tie.Need-returns-19
+unfolding heightOf
+returns-19 c = sym (ap heightOf (c .match .keys19))
+
+returns-20 : tie.Need-returns-20
+unfolding heightOf
+returns-20 c = sym (ap heightOf (c .match .keys20))
+
+returns-21 : tie.Need-returns-21
+unfolding heightOf
+returns-21 c = sym (ap heightOf (c .match .keys21))
+
+returns-22 : tie.Need-returns-22
+returns-22 c = sym (no-length-of-match (c .before .args .n) (c .match .rest))
 
 pub of-length-spec : {M : Type 1} → statement M
 of-length-spec =
@@ -77,4 +109,12 @@ of-length-spec =
     returns-11
     returns-12
     returns-13
-    returns-14)
+    returns-14
+    returns-15
+    returns-16
+    returns-17
+    returns-18
+    returns-19
+    returns-20
+    returns-21
+    returns-22)

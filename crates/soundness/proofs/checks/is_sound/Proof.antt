@@ -1,10 +1,10 @@
 -- `soundness::checks::is_sound` meets its contract: with what reading tested, the whole test. Assumes nothing.
+use Rattle.section.specs.Limits.{heightCount}
 use mathlib.Core.Path.{_∙_, sym, ap}
 use mathlib.Core.Bool.{not}
 use native.Mathlib.Omega.{arith}
 use borrow.Author.Needs.{needs}
 use borrow.Author.Tests.{not-true, not-false}
-use Rattle.catalogue.specs.Version.{version1}
 use Rattle.catalogue.specs.Reading.{every, soundPiece}
 use Rattle.soundness.specs.Checking.{noneShared}
 use Rattle.soundness.specs.Order.{inOrder}
@@ -65,7 +65,7 @@ returns-4 c =
     let a = c .before .before .before .before .before .before .before .before .before .before .before .before in
     let g = c .before .before .before .gathered .ensures .1 in
     sym (disk-unsound _ _ _ (a .pre .0) (a .pre .1)
-    (sym (ap (every (soundPiece (version1 .heights) (a .args .table .blocks))) g)
+    (sym (ap (every (soundPiece heightCount (a .args .table .blocks))) g)
     ∙ (sym (c .before .before .masks-of .ensures .disk) ∙ not-true _ (c .if4 .taken))))
 
 any-shared-requires : tie.Need-any-shared-requires
@@ -87,7 +87,7 @@ returns-5 c =
     (sym (b .before .before .before .before .ids-rise .ensures) ∙ not-false _ (b .before .before .before .if2 .left))
     (sym (ap inOrder (b .before .few .ensures .list))
     ∙ (sym (b .in-order .ensures) ∙ not-false _ (c .before .before .before .before .before .before .if3 .left)))
-    (sym (ap (every (soundPiece (version1 .heights) (a .args .table .blocks))) g)
+    (sym (ap (every (soundPiece heightCount (a .args .table .blocks))) g)
     ∙ (sym (c .before .before .before .before .masks-of .ensures .disk) ∙ not-false _ (c .before .before .if4 .left)))))
 
 pub is-sound-spec : {M : Type 1} → statement M

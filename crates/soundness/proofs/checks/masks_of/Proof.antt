@@ -1,5 +1,6 @@
 -- `soundness::checks::masks_of` meets its contract: every piece before `i` is on the disk, and its mask is written. Assumes
 -- nothing.
+use Rattle.section.specs.Limits.{heightCount}
 use mathlib.Core.Path.{_≡_, _∙_, refl, sym}
 use mathlib.Core.Bool.{true}
 use Prim.Native.Nat.{ℕ, _-_, _≤_, _<_}
@@ -9,7 +10,6 @@ use borrow.Author.Needs.{needs}
 use borrow.Author.Tests.{not-true, not-false}
 use borrow.Author.Count.{below-more}
 use Rattle.section.specs.Sections.{IsMask}
-use Rattle.catalogue.specs.Version.{version1}
 use Rattle.catalogue.specs.Reading.{soundPiece}
 use Rattle.soundness.specs.Checking.{gatheredPlaces, piecesOf}
 use Rattle.piece_lists.proofs.Arrays.{length-of-mapped}
@@ -21,7 +21,7 @@ use Rattle.soundness.proofs.checks.masks_of.Tie as tie
 abbrev Inv-loop : tie.InvT-loop
 Inv-loop blocks list count masks₀ i₀ masks i =
     (count ≤ gatheredPlaces) × (length (list .items) ≡ gatheredPlaces) × (length masks ≡ gatheredPlaces)
-    × ((k : ℕ) → k < i → soundPiece (version1 .heights) blocks (getD (list .items) k blank) ≡ true)
+    × ((k : ℕ) → k < i → soundPiece heightCount blocks (getD (list .items) k blank) ≡ true)
     × ((k : ℕ) → k < i → IsMask (getD (list .items) k blank) (getD masks k 0))
 
 abbrev μ-loop : tie.MeasureT-loop
@@ -51,7 +51,7 @@ returns c =
     record {
       disk =
           sym (one-fails (a .t1 .items) (a .t1 .count) blank (omega (arith, v .0, v .1))
-          (soundPiece (version1 .heights) (a .blocks)) (l .i) (c .before .before .before .loop-test .taken) fails);
+          (soundPiece heightCount (a .blocks)) (l .i) (c .before .before .before .loop-test .taken) fails);
       masks = λ x. false-true x;
     }
 
@@ -79,7 +79,7 @@ loop-again c =
       v .0,
       v .1,
       simp length-set (v .2),
-      below-more (λ k. soundPiece (version1 .heights) (a .blocks) (getD (a .t1 .items) k blank) ≡ true) (l .i)
+      below-more (λ k. soundPiece heightCount (a .blocks) (getD (a .t1 .items) k blank) ≡ true) (l .i)
           (v .3) holds,
       below-set (λ k n. IsMask (getD (a .t1 .items) k blank) n) (l .masks) (l .i) (c .mask .result) 0
           (omega (arith, v .0, v .2, c .before .before .before .before .loop-test .taken)) (v .4)
@@ -95,7 +95,7 @@ returns-2 c =
     record {
       disk =
           sym (all-hold (a .t1 .items) (a .t1 .count) blank (omega (arith, v .0, v .1))
-          (soundPiece (version1 .heights) (a .blocks)) (λ k h. v .3 k (omega (arith, c .loop-test .left))));
+          (soundPiece heightCount (a .blocks)) (λ k h. v .3 k (omega (arith, c .loop-test .left))));
       masks = λ _. (v .2, λ k h. v .4 k (omega (arith, c .loop-test .left)));
     }
 

@@ -5,6 +5,7 @@ use Prim.Native.Nat.{_-_, _≤_}
 use native.Mathlib.Omega.{arith}
 use lib.ListN.{getD, length}
 use borrow.Author.Needs.{needs}
+use Rattle.piece_lists.specs.Few.{piecePlaces}
 use Rattle.section.specs.Sections.{Addressable, movedInto, section}
 use Rattle.section.specs.declared.Section.{Section}
 use Rattle.piece_lists.proofs.Arrays.{length-of-mapped}
@@ -16,14 +17,15 @@ use Rattle.table.proofs.Entry.moved.Tie as tie
 
 abbrev Inv-loop : tie.InvT-loop
 Inv-loop self from to m items₀ j₀ items j =
-    (j ≤ m) × (m ≤ 13) × (length (self .items) ≡ 13) × (items ≡ mapFirst (movedInto from to) j (self .items))
+    (j ≤ m) × (m ≤ piecePlaces) × (length (self .items) ≡ piecePlaces) ×
+    (items ≡ mapFirst (movedInto from to) j (self .items))
 
 abbrev μ-loop : tie.MeasureT-loop
 μ-loop self from to m items₀ j₀ items j = m - j
 
 loop-holds : tie.Need-loop-holds Inv-loop μ-loop
 loop-holds c =
-    let e : length (c .before .args .self .items) ≡ 13 = search (needs, length-of-mapped) in
+    let e : length (c .before .args .self .items) ≡ piecePlaces = search (needs, length-of-mapped) in
     (omega arith, omega arith, e, sym (mapFirst-none _ _))
 
 mul-s : tie.Need-mul-s Inv-loop μ-loop

@@ -5,6 +5,7 @@ use Prim.Native.Nat.{_+_, _-_, _≤_}
 use native.Mathlib.Omega.{arith}
 use lib.ListN.{drop, length, take}
 use borrow.Author.Needs.{needs}
+use Rattle.piece_lists.specs.Few.{piecePlaces}
 use Rattle.section.specs.Sections.{Addressable, section}
 use Rattle.piece_lists.proofs.Arrays.{length-of-mapped, place-end, place-here, place-on}
 use Rattle.piece_lists.proofs.EachItem.{each-taken}
@@ -15,7 +16,7 @@ use Rattle.table.proofs.Entry.place_inside.Tie as tie
 
 abbrev Inv-loop : tie.InvT-loop
 Inv-loop from self m place₀ place =
-    (length (self .items) ≡ 13) × (m ≡ self .count) × (m ≤ 13) × (place ≤ m)
+    (length (self .items) ≡ piecePlaces) × (m ≡ self .count) × (m ≤ piecePlaces) × (place ≤ m)
     × (place + firstPlace (liesIn from) (drop place (take m (self .items)))
     ≡ firstPlace (liesIn from) (take m (self .items)))
 
@@ -24,7 +25,7 @@ abbrev μ-loop : tie.MeasureT-loop
 
 loop-holds : tie.Need-loop-holds Inv-loop μ-loop
 loop-holds c =
-    let e : length (c .args .t1 .items) ≡ 13 = search (needs, length-of-mapped) in
+    let e : length (c .args .t1 .items) ≡ piecePlaces = search (needs, length-of-mapped) in
     (e, refl, omega arith, omega arith, omega arith)
 
 mul-s : tie.Need-mul-s Inv-loop μ-loop

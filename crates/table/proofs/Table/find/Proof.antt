@@ -5,6 +5,7 @@ use native.Mathlib.Omega.{arith}
 use lib.ListN.{drop, length, take}
 use borrow.Author.Needs.{needs}
 use borrow.Author.Tests.{eq-eqb, ne-eqb}
+use Rattle.section.specs.Limits.{mostFiles}
 use Rattle.piece_lists.proofs.Arrays.{length-of-mapped, place-end, place-here, place-on}
 use Rattle.table.proofs.FileLists.{entryHas, place-map}
 use Rattle.table.specs.Files.{hasId, noEntry}
@@ -15,7 +16,7 @@ use Rattle.table.proofs.Table.find.Tie as tie
 
 abbrev Inv-loop : tie.InvT-loop
 Inv-loop id m files j₀ j =
-    (length files ≡ 64) × (m ≤ 64) × (j ≤ m)
+    (length files ≡ mostFiles) × (m ≤ mostFiles) × (j ≤ m)
     × (j + firstPlace (entryHas id) (drop j (take m files)) ≡ firstPlace (entryHas id) (take m files))
 
 abbrev μ-loop : tie.MeasureT-loop
@@ -23,7 +24,7 @@ abbrev μ-loop : tie.MeasureT-loop
 
 loop-holds : tie.Need-loop-holds Inv-loop μ-loop
 loop-holds c =
-    let e : length (c .before .args .self .files) ≡ 64 = search (needs, length-of-mapped) in
+    let e : length (c .before .args .self .files) ≡ mostFiles = search (needs, length-of-mapped) in
     (e, omega arith, omega arith, omega arith)
 
 mul-e : tie.Need-mul-e Inv-loop μ-loop

@@ -6,6 +6,7 @@ use Prim.Native.Nat.{_-_, _≤_}
 use native.Mathlib.Omega.{arith}
 use lib.ListN.{drop, length, length-set, take}
 use borrow.Author.Needs.{needs}
+use Rattle.section.specs.Limits.{mostFiles}
 use Rattle.layout.specs.Lists.{Each}
 use Rattle.piece_lists.proofs.Arrays.{length-of-mapped, withoutAt-end, withoutAt-more, withoutAt-start}
 use Rattle.piece_lists.proofs.EachItem.{each-get, each-set}
@@ -18,7 +19,7 @@ use Rattle.table.proofs.Table.release.Tie as tie
 
 abbrev Inv-loop : tie.InvT-loop
 Inv-loop self i m files₀ free j₀ files j =
-    (length files ≡ 64) × (m ≤ 64) × (j ≤ m) × (1 ≤ j) × Each InPlaces files
+    (length files ≡ mostFiles) × (m ≤ mostFiles) × (j ≤ m) × (1 ≤ j) × Each InPlaces files
     × (withoutAt i (take m files₀) ≡ take (j - 1) files ++ drop j (take m files))
 
 abbrev μ-loop : tie.MeasureT-loop
@@ -33,7 +34,7 @@ array-copy-out-e c = search needs
 free-with-requires : tie.Need-free-with-requires Inv-loop μ-loop
 free-with-requires c κs =
     let a = c .before .before .before in
-    let e : length (a .args .self .files) ≡ 64 = search (needs, length-of-mapped) in
+    let e : length (a .args .self .files) ≡ mostFiles = search (needs, length-of-mapped) in
     let k = each-get {P = InPlaces} (a .args .i) noEntry (a .pre .0 .each) (omega arith) in
     (k, omega arith)
 
@@ -43,7 +44,7 @@ add-j c = search needs
 loop-holds : tie.Need-loop-holds Inv-loop μ-loop
 loop-holds c =
     let a = c .before .before .before .before in
-    let e : length (a .args .self .files) ≡ 64 = search (needs, length-of-mapped) in (
+    let e : length (a .args .self .files) ≡ mostFiles = search (needs, length-of-mapped) in (
       e,
       omega arith,
       omega arith,
@@ -96,7 +97,7 @@ returns c =
     let l = c .before .loop in
     let v = l .inv in
     let f = c .before .before .free-with in
-    let e : length (a .args .self .files) ≡ 64 = search (needs, length-of-mapped) in
+    let e : length (a .args .self .files) ≡ mostFiles = search (needs, length-of-mapped) in
     let q = each-get {P = InPlaces} (a .args .i) noEntry (a .pre .0 .each) (omega arith) in
     record {
       layout = layout-released (a .args .self) (record {

@@ -8,6 +8,7 @@ use native.Mathlib.Omega.{arith}
 use lib.ListN.{drop, length, length-set, take}
 use borrow.Author.Needs.{needs}
 use borrow.Author.Tests.{le-leb, lt-leb}
+use Rattle.section.specs.Limits.{mostFiles}
 use Rattle.layout.specs.Lists.{Each}
 use Rattle.piece_lists.proofs.Arrays.{length-of-mapped, place-end, place-here, place-on}
 use Rattle.piece_lists.proofs.Arrays.{withAt-end, withAt-more, withAt-start}
@@ -21,7 +22,7 @@ use Rattle.table.proofs.files.with_file.Tie as tie
 
 abbrev Inv-rank : tie.InvT-rank
 Inv-rank t e free m id files j₀ j =
-    (length files ≡ 64) × (m < 64) × (j ≤ m)
+    (length files ≡ mostFiles) × (m < mostFiles) × (j ≤ m)
     × (j + firstPlace (noLowerId id) (drop j (take m files)) ≡ firstPlace (noLowerId id) (take m files))
 
 abbrev μ-rank : tie.MeasureT-rank
@@ -29,7 +30,7 @@ abbrev μ-rank : tie.MeasureT-rank
 
 abbrev Inv-shift : tie.InvT-shift
 Inv-shift t free m id files₀ j₀ carry₀ files j carry =
-    (length files ≡ 64) × (m < 64) × (j ≤ m) × Each InPlaces files × (InPlaces carry)
+    (length files ≡ mostFiles) × (m < mostFiles) × (j ≤ m) × Each InPlaces files × (InPlaces carry)
     × (withAt j₀ carry₀ (take m files₀) ≡ take j files ++ (carry ∷ drop j (take m files)))
     × (j₀ ≡ firstPlace (noLowerId id) (take m files₀))
 
@@ -38,7 +39,7 @@ abbrev μ-shift : tie.MeasureT-shift
 
 rank-holds : tie.Need-rank-holds Inv-rank μ-rank Inv-shift μ-shift
 rank-holds c =
-    let e : length (c .before .args .t .files) ≡ 64 = search (needs, length-of-mapped) in
+    let e : length (c .before .args .t .files) ≡ mostFiles = search (needs, length-of-mapped) in
     (e, omega arith, omega arith, omega arith)
 
 mul-x : tie.Need-mul-x Inv-rank μ-rank Inv-shift μ-shift

@@ -5,17 +5,19 @@ use native.Mathlib.Omega.{arith}
 use lib.ListN.{drop, length, take}
 use lib.Seq.{length-take-le}
 use borrow.Author.Needs.{needs}
+use Rattle.piece_lists.specs.Few.{piecePlaces}
 use Rattle.layout.specs.Removing.{insertAll}
 use Rattle.section.specs.Sections.{section}
 use Rattle.piece_lists.proofs.Arrays.{length-of-mapped}
 use Rattle.table.proofs.FreeLists.{all-more, all-none}
-use Rattle.free_pieces.specs.Free.{freeOf}
+use Rattle.free_pieces.specs.Free.{freeOf, freePlaces}
 use Rattle.table.proofs.release.free_with.Statement.{statement}
 use Rattle.table.proofs.release.free_with.Tie as tie
 
 abbrev Inv-loop : tie.InvT-loop
 Inv-loop items all₀ j₀ all j =
-    (length items ≡ 13) × (j₀ ≤ 13) × (j ≤ j₀) × (all₀ .count + j₀ ≤ 26) × (all .count + j ≡ all₀ .count + j₀)
+    (length items ≡ piecePlaces) × (j₀ ≤ piecePlaces) × (j ≤ j₀) × (all₀ .count + j₀ ≤ freePlaces) ×
+    (all .count + j ≡ all₀ .count + j₀)
     × (freeOf all ≡ insertAll (drop j (take j₀ items)) (freeOf all₀)) × (length (freeOf all) ≡ all .count)
 
 abbrev μ-loop : tie.MeasureT-loop
@@ -25,8 +27,8 @@ loop-holds : tie.Need-loop-holds Inv-loop μ-loop
 unfolding freeOf
 loop-holds c =
     let a = c .before .args in
-    let e : length (a .e .items) ≡ 13 = search (needs, length-of-mapped) in
-    let f : length (a .free .items) ≡ 26 = search (needs, length-of-mapped) in (
+    let e : length (a .e .items) ≡ piecePlaces = search (needs, length-of-mapped) in
+    let f : length (a .free .items) ≡ freePlaces = search (needs, length-of-mapped) in (
       e,
       omega arith,
       omega arith,

@@ -1,0 +1,58 @@
+//! One call on the proved manager and on the twin, each with buffers of its own.
+
+pub mod numbers;
+
+use event_disk::Refusal;
+
+/// A catalogue, a disk and an output.
+#[derive(Clone, PartialEq)]
+pub struct Buffers {
+    pub cat: Vec<u8>,
+    pub disk: Vec<u8>,
+    pub out: Vec<u8>,
+}
+
+/// A call with its arguments.
+#[derive(Debug)]
+pub enum Call {
+    Format,
+    Add(u16, Vec<u8>),
+    Remove(u16),
+    Read(u16, u64),
+    Breaks(u16),
+    Free,
+    Check,
+}
+
+fn on_proved(call: &Call, b: &mut Buffers) -> Result<u64, u8> {
+    let answer = match call {
+        Call::Format => event_disk::format(&mut b.cat, &b.disk),
+        Call::Add(id, content) => event_disk::add(&mut b.cat, &mut b.disk, *id, content),
+        Call::Remove(id) => event_disk::remove(&mut b.cat, &mut b.disk, *id),
+        Call::Read(id, first) => event_disk::read(&b.cat, &b.disk, *id, *first, &mut b.out),
+        Call::Breaks(id) => event_disk::breaks(&b.cat, *id),
+        Call::Free => event_disk::free(&b.cat),
+        Call::Check => event_disk::check(&b.cat, &b.disk),
+    };
+    answer.map_err(Refusal::number)
+}
+
+fn on_twin(call: &Call, b: &mut Buffers) -> Result<u64, u8> {
+    match call {
+        Call::Format => twin::format(&mut b.cat, &b.disk),
+        Call::Add(id, content) => twin::add(&mut b.cat, &mut b.disk, *id, content),
+        Call::Remove(id) => twin::remove(&mut b.cat, &mut b.disk, *id),
+        Call::Read(id, first) => twin::read(&b.cat, &b.disk, *id, *first, &mut b.out),
+        Call::Breaks(id) => twin::breaks(&b.cat, *id),
+        Call::Free => twin::free(&b.cat),
+        Call::Check => twin::check(&b.cat, &b.disk),
+    }
+}
+
+/// Makes one call on both, and answers what both answered.
+pub fn agree(call: &Call, proved: &mut Buffers, twin: &mut Buffers) -> Result<u64, u8> {
+    let answer = on_proved(call, proved);
+    assert_eq!(on_twin(call, twin), answer, "{call:?}");
+    assert!(proved == twin, "the bytes after {call:?}");
+    answer
+}

@@ -1,4 +1,6 @@
 -- The versions of the catalogue: everything about its bytes is over this record. Definitions only.
+-- The record is the struct `Version` of src/lib.rt: the number in the header, the bytes of a field for a number of
+-- blocks, those of the whole catalogue, and how many heights there are, from 0 on.
 use mathlib.Core.Bool.{cond}
 use mathlib.Core.List.{List, [], _∷_}
 use Prim.Native.Nat.{ℕ, _+_, _-_, _^_, _≤_}

@@ -19,7 +19,8 @@ height-fits : (c : ℕ) (s : Section) → c ≤ greatestDisk → OnDisk c s → 
 height-fits c s m o = let h = pow-lt-inv (s .height .value) heightCount (omega (arith, o .within)) in omega arith
 
 -- a file whose pieces are on the disk
-pub entry-on-disk : (c : ℕ) (e : Entry) → c ≤ greatestDisk → e .count ≤ piecePlaces → Each (OnDisk c) (piecesIn e)
+pub entry-on-disk : (c : ℕ) (e : Entry) → c ≤ greatestDisk → e .pieces .count ≤ piecePlaces
+    → Each (OnDisk c) (piecesIn e)
     → EntryFits (blockSize * c) e
 entry-on-disk c e m n o = record {
   count = n;

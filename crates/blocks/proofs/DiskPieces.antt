@@ -1,4 +1,5 @@
 -- The pieces of a file one after another: the one at hand, those left, and the blocks of both. Assumes nothing.
+use Rattle.piece.specs.Packed.{seen}
 use mathlib.Core.List.{List, _++_}
 use mathlib.Core.Path.{_∙_, _≡_, ap, refl, sym}
 use Prim.Native.Nat.{_*_, _+_, _-_, _<_, _^_, _≤_, suc, zero, ℕ}
@@ -15,7 +16,7 @@ use Rattle.section.specs.Sections.{endOf, lengthOf, section}
 use Rattle.section.specs.declared.Section.{Section}
 use Rattle.piece_lists.proofs.Arrays.{ahead, behind}
 use Rattle.piece_lists.proofs.EachItem.{each-get, each-taken}
-use Rattle.piece_lists.specs.Few.{piecePlaces}
+use Rattle.piece_lists.specs.Few.{listOf, piecePlaces}
 use Rattle.table.specs.Tables.{piecesIn}
 use Rattle.table.specs.declared.Entry.{Entry}
 
@@ -45,11 +46,12 @@ count-most d m done = omega arith
 count-most d m (more p e) = omega (arith, p .within, count-most d m e)
 
 pub entry-most : (d : ℕ) (e : Entry) → EntryFits d e → blockCount (piecesIn e) ≤ greatestDisk * piecePlaces
+unfolding listOf
 entry-most d e f = omega (
   arith,
   f .count,
   count-most d (f .disk) (f .pieces),
-  length-take (e .count) (e .items),
+  length-take (e .pieces .count) (seen (e .pieces .items)),
 )
 
 -- ---- the block of a page

@@ -39,7 +39,7 @@ pub record PieceFits (d : ℕ) (s : Section) : Type 0 where
 
 -- a disk of d bytes has the blocks of the file
 pub record EntryFits (d : ℕ) (e : Entry) : Type 0 where
-  pub count : e .count ≤ piecePlaces
+  pub count : e .pieces .count ≤ piecePlaces
   pub pieces : Each (PieceFits d) (piecesIn e)
   pub disk : d ≤ blockSize * greatestDisk
 

@@ -95,12 +95,14 @@ pub fn write_pages(disk: &mut [u8], content: &[u8], e: Entry)
         ≡ writePages (now (disk .entry)) (blocksOf (piecesIn e))
         (cutPages (pageCount (now (content .entry))) (now (content .entry))) ⌝ }
 {
-    let count = e.count;
-    let items = e.items;
+    let list = e.pieces;
+    let count = list.count;
+    let items = list.items;
     let mut page: usize = 0;
     let mut j: usize = 0;
     while j < count {
-        let s = items[j];
+        let piece = items[j];
+        let s = piece.section();
         let h = s.height;
         let n = h.length() as usize;
         write_run(disk, s.first as usize, content, page, n);
@@ -114,12 +116,14 @@ pub fn block_of_page(e: Entry, page: usize) -> u32
     requires { ⌜ EntryFits (blockSize * greatestDisk) e ⌝ }
     ensures { λ r. ⌜ r ≡ getD (blocksOf (piecesIn e)) page 0 ⌝ }
 {
-    let count = e.count;
-    let items = e.items;
+    let list = e.pieces;
+    let count = list.count;
+    let items = list.items;
     let mut rest = page;
     let mut j: usize = 0;
     while j < count {
-        let s = items[j];
+        let piece = items[j];
+        let s = piece.section();
         let h = s.height;
         let n = h.length();
         if rest < n as usize {

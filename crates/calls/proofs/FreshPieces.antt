@@ -1,4 +1,7 @@
 -- The free pieces of a fresh disk, height by height. Assumes nothing.
+use Rattle.piece.specs.Packed.{seen, sectionIn}
+use Rattle.piece.proofs.Seen.{seen-length, seen-set}
+use Rattle.piece.specs.declared.Piece.{Piece}
 use mathlib.Core.List.{List, [], _++_, _∷_, append-nil}
 use mathlib.Core.Path.{_∙_, _≡_, ap, ap₂, refl, sym}
 use Prim.Native.Nat.{_%_, _*_, _+_, _-_, _<_, _^_, _≤_, suc, zero, ℕ}
@@ -40,17 +43,20 @@ module _ (c h : ℕ) where
       (sym (ap (λ z. piecesFrom (suc h) c (c - z)) eq ∙ (step (c - c % 2 ^ h) ∙ ap (from (c - c % 2 ^ h)) e)))
 
   -- one, which starts where the higher ones end
-  pub pieces-push : (f : Pieces) (x : ℕ) → digit h c ≡ 1 → x ≡ c - c % 2 ^ suc h → f .count < length (f .items)
-      → piecesWith c h (record { count = f .count + 1; items = set (f .items) (f .count) (section x h) })
-      ≡ piecesWith c (suc h) f
+  pub pieces-push : (f : Pieces) (x : ℕ) (p : Piece) → sectionIn p ≡ section x h → digit h c ≡ 1
+      → x ≡ c - c % 2 ^ suc h → f .count < length (f .items)
+      → piecesWith c h (record { count = f .count + 1; items = set (f .items) (f .count) p }) ≡ piecesWith c (suc h) f
   unfolding piecesWith listOf from
-  pieces-push f x e g l =
+  pieces-push f x p k e g l =
+      let n = seen-length (f .items) in
       let eq : c % 2 ^ suc h ≡ 2 ^ h + c % 2 ^ h =
       mod-digit c h ∙ (ap (λ z. z * 2 ^ h + c % 2 ^ h) e ∙ omega arith) in
       let on : c - c % 2 ^ h ≡ x + 2 ^ h = omega (arith, mod-le c (2 ^ suc h)) in
-      ap₂ (λ a y. a ++ piecesFrom h c y) (pushed (f .items) (f .count) (section x h) l) on
-      ∙ (append-snoc (take (f .count) (f .items)) (section x h) (piecesFrom h c (x + 2 ^ h))
-      ∙ ap (λ z. take (f .count) (f .items) ++ z)
+      ap₂ (λ a y. a ++ piecesFrom h c y)
+      (ap (take (f .count + 1)) (seen-set (f .items) (f .count) p ∙ ap (set (seen (f .items)) (f .count)) k)
+      ∙ pushed (seen (f .items)) (f .count) (section x h) (omega arith)) on
+      ∙ (append-snoc (take (f .count) (seen (f .items))) (section x h) (piecesFrom h c (x + 2 ^ h))
+      ∙ ap (λ z. take (f .count) (seen (f .items)) ++ z)
       (sym (ap (piecesFrom (suc h) c) (sym g) ∙ (step x ∙ ap (from x) e))))
 
 -- ---- from the first height to the last

@@ -52,7 +52,7 @@ module _ (t : Table) (i n k : ℕ) (bs : List ℕ) (c : CanAdd t i n k bs) (p : 
   size = paged-length bs (c .paged)
 
   abbrev new : Entry
-  new = record { id = i; count = p .count; items = p .items }
+  new = record { id = i; pieces = p .pieces }
 
   -- the pieces that were laid are those of the definition
   given : (allocate 0 heightCount (pageCount bs) (freeOf (t .free)) ≡ allocated (piecesIn new) (freeOf (p .free)))

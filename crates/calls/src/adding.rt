@@ -22,12 +22,8 @@ fn place_file(disk: &mut [u8], t: Table, id: u32, n: u32, content: &[u8]) -> Tab
 {
     let free = t.free;
     let laid = free_pieces::allocate(free, n);
-    let items = laid.items;
-    let e = Entry {
-        id,
-        count: laid.count,
-        items,
-    };
+    let pieces = laid.pieces;
+    let e = Entry { id, pieces };
     blocks::write_pages(disk, content, e);
     let left = laid.free;
     table::with_file(t, e, left)

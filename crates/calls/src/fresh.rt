@@ -2,6 +2,7 @@
 ghost use Prim.Native.Nat.{_≤_};
 ghost use Rattle.section.specs.Limits.{greatestDisk};
 ghost use Rattle.calls.specs.Fresh.{FreeFor};
+use piece::Piece;
 use piece_lists::Pieces;
 use section::Height;
 use section::Section;
@@ -11,10 +12,7 @@ pub fn fresh_free(blocks: u32) -> Pieces
     requires { ⌜ blocks ≤ greatestDisk ⌝ }
     ensures { λ r. ⌜ FreeFor blocks r ⌝ }
 {
-    let none = Section {
-        first: 0,
-        height: Height { value: 0 },
-    };
+    let none = Piece { word: 0 };
     let mut free = Pieces {
         count: 0,
         items: [none; Pieces::PLACES],
@@ -28,7 +26,7 @@ pub fn fresh_free(blocks: u32) -> Pieces
             let at = free.count;
             let first = blocks - blocks % (2 * length);
             let s = Section { first, height };
-            free.items[at] = s;
+            free.items[at] = Piece::of(s);
             free.count = at + 1;
         }
     }

@@ -1,5 +1,5 @@
 -- What is encoded is read back: pairs and entries from their bytes. Assumes nothing.
-use mathlib.Core.Bool.{false, true}
+use mathlib.Core.Bool.{cond, false, true}
 use mathlib.Core.List.{List, _++_, _∷_}
 use mathlib.Core.Path.{_∙_, _≡_, ap, refl, sym}
 use Prim.Native.Nat.{_-_, _<_, _^_, _≤_, suc, ℕ}
@@ -24,13 +24,15 @@ use Rattle.layout.specs.Lists.{Each, Pairwise, done, more, sortBy, sumOf}
 use Rattle.layout.specs.Sound.{greatestId}
 use Rattle.section.proofs.Lengths.{height-of-length}
 use Rattle.section.specs.Heights.{heightOf}
-use Rattle.section.specs.Limits.{greatestHeight}
+use Rattle.section.specs.Limits.{greatestDisk, greatestHeight}
 use Rattle.section.specs.Sections.{lengthOf}
 use Rattle.section.specs.declared.Section.{Section}
 
--- a section whose height has a length, and that fits fields of w bytes
+-- a section whose height has a length, that fits fields of w bytes, and whose first block can be one of a disk
 abbrev pub Fits : ℕ → Section → Type 0
-Fits w s = (s .height .value ≤ greatestHeight) × ((s .first < byteValues ^ w) × (lengthOf s < byteValues ^ w))
+Fits w s =
+    (s .height .value ≤ greatestHeight) × ((s .first < byteValues ^ w) × (lengthOf s < byteValues ^ w))
+    × (s .first < greatestDisk)
 
 module _ (w : ℕ) where
   pair-back : (s : Section) (r : List ℕ) → Fits w s
@@ -41,7 +43,8 @@ module _ (w : ℕ) where
       (field-back w (s .first) (bigEndian w (lengthOf s) ++ r) (p .1 .0))
       ∙ (ap (λ z. then z λ n r′. sectionRead (s .first) (heightOf n) r′)
       (field-back w (lengthOf s) r (p .1 .1))
-      ∙ ap (λ z. sectionRead (s .first) z r) (height-of-length (s .height .value) (p .0)))
+      ∙ (ap (λ z. sectionRead (s .first) z r) (height-of-length (s .height .value) (p .0))
+      ∙ ap (λ t. cond t (got s r) bad) (lt-ltb (s .first) greatestDisk (p .2))))
 
   pub pairs-back : {l : List Section} (r : List ℕ) → Each (Fits w) l
       → readPairs (length l) w (pairsBytes w l ++ r) ≡ got l r

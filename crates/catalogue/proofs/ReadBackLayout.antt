@@ -12,7 +12,7 @@ use borrow.Author.Tests.{eq-eqb, le-leb}
 use Rattle.catalogue.proofs.Fields.{field-back}
 use Rattle.catalogue.proofs.Grouping.{used-fields}
 use Rattle.catalogue.proofs.ReadBack.{FileFits, Fits, entries-back, pairs-back}
-use Rattle.catalogue.proofs.Roomy.{Roomy}
+use Rattle.catalogue.proofs.Roomy.{Roomy, served-blocks}
 use Rattle.catalogue.proofs.Tests.{and-intro, sound-test}
 use Rattle.catalogue.specs.Encoding.{bigEndian, byteValues, encode, entriesBytes, pairsBytes}
 use Rattle.catalogue.specs.Version.{shortField}
@@ -26,13 +26,16 @@ use Rattle.layout.specs.Layout.{File, Layout, OnDisk, allPieces, fileBlocks, fi
 use Rattle.layout.specs.Lists.{Each, Pairwise, done, more, sumOf}
 use Rattle.layout.specs.Sound.{Sound, greatestId}
 use Rattle.section.proofs.Lengths.{pow-lt-inv}
-use Rattle.section.specs.Limits.{mostFiles}
+use Rattle.section.specs.Limits.{greatestDisk, mostFiles}
 use Rattle.section.specs.Sections.{lengthOf}
 use Rattle.section.specs.declared.Section.{Section}
 
 module _ (v : Version) (room : Roomy v) (l : Layout) (s : Sound (v .heights) l) where
   blocks-fit : l .blocks < byteValues ^ v .width
   blocks-fit = omega (arith, s .most-blocks, room .wide)
+
+  blocks-few : l .blocks ≤ greatestDisk
+  blocks-few = omega (arith, s .most-blocks, served-blocks (room .served))
 
   fits : (p : Section) → OnDisk (l .blocks) p → p .height .value < v .heights → Fits (v .width) p
   fits p d h = (
@@ -41,6 +44,7 @@ module _ (v : Version) (room : Roomy v) (l : Layout) (s : Sound (v .heights) l) 
       omega (arith, d .within, blocks-fit, pow-pos (p .height .value)),
       omega (arith, d .within, blocks-fit, pow-pos (p .height .value)),
     ),
+    omega (arith, d .within, blocks-few, pow-pos (p .height .value)),
   )
 
   pub pieces-fit : Each (Fits (v .width)) (allPieces l)

@@ -1,5 +1,5 @@
 -- What is read from bytes was encoded: the bytes are the encoding of the layout that is read. Assumes nothing.
-use mathlib.Core.Bool.{Bool, _&&_, false, true}
+use mathlib.Core.Bool.{Bool, _&&_, cond, false, true}
 use mathlib.Core.List.{List, [], _++_, _∷_}
 use mathlib.Core.Path.{_∙_, _≡_, ap, ap₂, refl, subst, sym}
 use Prim.Native.Nat.{_-_, suc, zero, ℕ}
@@ -22,6 +22,7 @@ use Rattle.layout.specs.Layout.{File, blockCount, byLength}
 use Rattle.layout.specs.Lists.{sortBy}
 use Rattle.section.proofs.Lengths.{length-of-height}
 use Rattle.section.specs.Heights.{heightOf}
+use Rattle.section.specs.Limits.{greatestDisk}
 use Rattle.section.specs.declared.Measured.{Measured}
 use Rattle.section.specs.declared.Measured.the-variants as Measured·
 use Rattle.section.specs.Sections.{lengthOf}
@@ -40,12 +41,17 @@ then-inv bad k b r e = absurd (let z : _≡_ {A = ℕ} 0 1 = cc in omega arith)
 
 section-inv : (x : ℕ) (m : Measured) (r : List ℕ) (s : Section) (r′ : List ℕ) → sectionRead x m r ≡ got s r′
     → (x ≡ s .first) × (m ≡ Measured·.Height (s .height)) × (r ≡ r′)
-section-inv x (Measured·.Height h) r s r′ e =
-    let same = got-value (record { first = x; height = h }) s r r′ e in (
-      ap (λ (z : Section). z .first) same,
-      ap (λ (z : Section). Measured·.Height (z .height)) same,
-      got-rest (record { first = x; height = h }) s r r′ e,
-    )
+section-inv x (Measured·.Height h) r s r′ e = go (ltb x greatestDisk) e
+  where
+    go : (t : Bool) → cond t (got (record { first = x; height = h }) r) bad ≡ got s r′
+        → (x ≡ s .first) × (Measured·.Height h ≡ Measured·.Height (s .height)) × (r ≡ r′)
+    go true e =
+        let same = got-value (record { first = x; height = h }) s r r′ e in (
+          ap (λ (z : Section). z .first) same,
+          ap (λ (z : Section). Measured·.Height (z .height)) same,
+          got-rest (record { first = x; height = h }) s r r′ e,
+        )
+    go false e = absurd (let z : _≡_ {A = ℕ} 0 1 = cc in omega arith)
 section-inv x Measured·.NoLength r s r′ e = absurd (let z : _≡_ {A = ℕ} 0 1 = cc in omega arith)
 
 module _ (w : ℕ) where

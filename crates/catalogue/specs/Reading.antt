@@ -1,7 +1,7 @@
 -- The layout that is read from the bytes of a catalogue, if they are sound. Definitions only.
 -- Nobody has to believe this file: the theorem `reading-iff` says that a layout is read exactly if the bytes are
 -- its encoding and it is sound.
-use mathlib.Core.Bool.{Bool, true, false, _&&_, not}
+use mathlib.Core.Bool.{Bool, true, false, _&&_, cond, not}
 use mathlib.Core.List.{List, [], _∷_}
 use Prim.Native.Nat.{ℕ, zero, suc, _+_, _-_, _*_, _^_}
 use lib.Count.{ones}
@@ -12,7 +12,7 @@ use Rattle.section.specs.declared.Section.{Section}
 use Rattle.section.specs.declared.Measured.{Measured}
 use Rattle.section.specs.declared.Measured.the-variants as Measured·
 use Rattle.section.specs.Heights.{heightOf}
-use Rattle.section.specs.Limits.{mostFiles}
+use Rattle.section.specs.Limits.{greatestDisk, mostFiles}
 use Rattle.section.specs.Sections.{isOnDisk, lengthOf, sharesBlock}
 use Rattle.layout.specs.Lists.{sumOf, sortBy}
 use Rattle.layout.specs.Layout.{File, Layout, allPieces, blockCount, byLength, fileBlocks, freeBlocks}
@@ -87,9 +87,9 @@ readFrom (suc w) acc (b ∷ bs) = readFrom w (acc * byteValues + b) bs
 abbrev pub readField : ℕ → List ℕ → Read ℕ
 readField w bs = readFrom w 0 bs
 
--- a section, if its length is one
+-- a section, if its length is one, and its first block can be one of a disk
 abbrev pub sectionRead : ℕ → Measured → List ℕ → Read Section
-sectionRead x (Measured·.Height h) r = got (record { first = x; height = h }) r
+sectionRead x (Measured·.Height h) r = cond (ltb x greatestDisk) (got (record { first = x; height = h }) r) bad
 sectionRead x Measured·.NoLength r = bad
 
 -- a pair

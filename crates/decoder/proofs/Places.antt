@@ -1,5 +1,5 @@
 -- Fields and pairs at a place of the bytes, for any width of a field. Assumes nothing.
-use mathlib.Core.Bool.{false, true}
+use mathlib.Core.Bool.{cond, false, true}
 use mathlib.Core.List.{List, [], _∷_}
 use mathlib.Core.Path.{_∙_, _≡_, ap, ap₂, refl, sym}
 use Prim.Native.Nat.{_*_, _+_, _-_, _<_, _^_, _≤_, suc, zero, ℕ}
@@ -13,6 +13,10 @@ use lib.ListN.{drop, getD, length, length-drop}
 use lib.Pow.{pow-mono}
 use lib.Seq.{drop-cons}
 use Rattle.catalogue.specs.Version.{widestField}
+use borrow.Author.Tests.{le-ltb, lt-ltb}
+use Rattle.piece.specs.Packed.{sectionIn}
+use Rattle.piece.specs.declared.Piece.{Piece}
+use Rattle.section.specs.declared.Measured.{Measured}
 use Rattle.catalogue.specs.Reading.{Read, bad, got, readField, readFrom, readPair, sectionRead, then}
 use Rattle.catalogue.specs.Encoding.{byteValues}
 use Rattle.section.proofs.Multiples.{below-or-not}
@@ -21,8 +25,8 @@ use Rattle.decoder.specs.declared.PairRead.{PairRead}
 use Rattle.section.proofs.Lengths.{length-greatest, length-of-height}
 use Rattle.section.proofs.Nested.{inside}
 use Rattle.section.specs.Heights.{heightOf}
-use Rattle.section.specs.Limits.{greatestHeight}
-use Rattle.section.specs.Sections.{section}
+use Rattle.section.specs.Limits.{greatestDisk, greatestHeight}
+use Rattle.section.specs.Sections.{lengthOf}
 use Rattle.section.specs.declared.Height.{Height}
 use Rattle.section.specs.declared.Measured.the-variants as Measured·
 
@@ -133,14 +137,28 @@ module _ (w : ℕ) where
       ∙ ap (λ r. sectionRead x (heightOf n) r) (drop-same s (at + w + w) (at + 2 * w) (omega arith)))
 
   module _ (s : List ℕ) (at x n : ℕ) (p : FieldAt w s at x) (q : FieldAt w s (at + w) n) where
-    pub pair-section : (h : Height) → heightOf n ≡ Measured·.Height h
+    pub pair-section : (h : Height) → x < greatestDisk → heightOf n ≡ Measured·.Height h
         → readPair w (drop at s) ≡ got (record { first = x; height = h }) (drop (at + 2 * w) s)
-    pair-section h e = pair-at s at x n p q ∙ ap (λ m. sectionRead x m (drop (at + 2 * w) s)) e
+    pair-section h lt e =
+        pair-at s at x n p q
+        ∙ (ap (λ m. sectionRead x m (drop (at + 2 * w) s)) e
+        ∙ ap (λ t. cond t (got (record { first = x; height = h }) (drop (at + 2 * w) s)) bad)
+        (lt-ltb x greatestDisk lt))
+
+    -- a first block past every disk
+    pub pair-far : greatestDisk ≤ x → readPair w (drop at s) ≡ bad
+    pair-far le = pair-at s at x n p q ∙ go (heightOf n)
+      where
+        go : (m : Measured) → sectionRead x m (drop (at + 2 * w) s) ≡ bad
+        go (Measured·.Height h) =
+            ap (λ t. cond t (got (record { first = x; height = h }) (drop (at + 2 * w) s)) bad)
+            (le-ltb x greatestDisk le)
+        go Measured·.NoLength = refl
 
     pub pair-none : heightOf n ≡ Measured·.NoLength → readPair w (drop at s) ≡ bad
     pair-none e = pair-at s at x n p q ∙ ap (λ m. sectionRead x m (drop (at + 2 * w) s)) e
 
-pub pair-got : (p : PairRead) (r : List ℕ) → p .ok ≡ true → pairIn p r ≡ got (p .section) r
+pub pair-got : (p : PairRead) (r : List ℕ) → p .ok ≡ true → pairIn p r ≡ got (sectionIn (p .piece)) r
 unfolding pairIn
 pair-got p r e = rw e
 
@@ -149,7 +167,7 @@ unfolding pairIn
 pair-bad p r e = rw e
 
 pub no-pair-at : (w : ℕ) (s : List ℕ) (at : ℕ) (p : PairRead) → readPair w (drop at s) ≡ bad
-    → (p .ok ≡ false) × (p .length ≡ 1) × (p .section .height .value ≡ 0) → PairAt w s at p
+    → (p .ok ≡ false) × (p .length ≡ 1) × (sectionIn (p .piece) .height .value ≡ 0) → PairAt w s at p
 no-pair-at w s at p e k =
     record {
       meaning = e ∙ sym (pair-bad p _ (k .0));
@@ -159,14 +177,15 @@ no-pair-at w s at p e k =
     }
 
 pub some-pair-at : (w : ℕ) (s : List ℕ) (at x n : ℕ) → FieldAt w s at x → FieldAt w s (at + w) n → (h : Height)
-    → heightOf n ≡ Measured·.Height h → at + 2 * w ≤ length s
-    → PairAt w s at (record { ok = true; length = n; section = record { first = x; height = h } })
+    → x < greatestDisk → heightOf n ≡ Measured·.Height h → at + 2 * w ≤ length s → (z : Piece)
+    → sectionIn z ≡ record { first = x; height = h } → PairAt w s at (record { ok = true; length = n; piece = z })
 unfolding pairIn
-some-pair-at w s at x n p q h e l =
+some-pair-at w s at x n p q h lt e l z k =
     let y = length-of-height n h e in
     record {
-      meaning = pair-section w s at x n p q h e;
-      equal = y .1;
+      meaning =
+          pair-section w s at x n p q h lt e ∙ ap (λ a. got a (drop (at + 2 * w) s)) (sym k);
+      equal = y .1 ∙ sym (ap lengthOf k);
       most = omega (arith, y .1, pow-mono {i = h .value} {j = greatestHeight} (y .0), length-greatest);
       inside = λ _. l;
     }

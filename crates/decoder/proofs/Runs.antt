@@ -1,4 +1,7 @@
 -- Pairs read one after another: what is left to read, after those that stand in the array. Assumes nothing.
+use Rattle.piece.specs.Packed.{seen, sectionIn}
+use Rattle.piece.proofs.Seen.{seen-length, seen-set}
+use Rattle.piece.specs.declared.Piece.{Piece}
 use mathlib.Core.Bool.{false, true}
 use mathlib.Core.List.{List, [], _++_, _∷_, append-nil}
 use mathlib.Core.Path.{_∙_, _≡_, ap, refl, sym}
@@ -67,10 +70,10 @@ unfolding readPairs
 pairs-end w bs acc = ap (λ z. got z bs) (append-nil acc)
 
 -- what is left to read, with i of the pairs in the array and the others' bytes from `next` on
-abbrev pub Left : ℕ → List ℕ → ℕ → ℕ → ℕ → List Section → Read (List Section)
-Left w s count next i items = readAfter (take i items) (PairsLeft w (count - i) (drop next s))
+abbrev pub Left : ℕ → List ℕ → ℕ → ℕ → ℕ → List Piece → Read (List Section)
+Left w s count next i items = readAfter (take i (seen items)) (PairsLeft w (count - i) (drop next s))
 
-pub left-start : (w : ℕ) (s : List ℕ) (at count : ℕ) (items : List Section)
+pub left-start : (w : ℕ) (s : List ℕ) (at count : ℕ) (items : List Piece)
     → Left w s count at 0 items ≡ PairsLeft w count (drop at s)
 left-start w s at count items =
     after-none (PairsLeft w (count - 0) (drop at s)) ∙ ap (λ n. PairsLeft w n (drop at s)) zero-less
@@ -78,31 +81,32 @@ left-start w s at count items =
     zero-less : count - 0 ≡ count
     zero-less = omega arith
 
-module _ (w : ℕ) (s : List ℕ) (count next i : ℕ) (items : List Section) (h : i < count) (p : PairRead)
+module _ (w : ℕ) (s : List ℕ) (count next i : ℕ) (items : List Piece) (h : i < count) (p : PairRead)
     (q : PairAt w s next p) where
   one-less : count - i ≡ suc (count - (i + 1))
   one-less = omega arith
 
   pub left-more : p .ok ≡ true → i < length items
-      → Left w s count (next + 2 * w) (i + 1) (set items i (p .section)) ≡ Left w s count next i items
+      → Left w s count (next + 2 * w) (i + 1) (set items i (p .piece)) ≡ Left w s count next i items
   left-more e l =
       ap (λ z. readAfter z (PairsLeft w (count - (i + 1)) (drop (next + 2 * w) s)))
-      (pushed items i (p .section) l)
+      (ap (take (i + 1)) (seen-set items i (p .piece))
+      ∙ pushed (seen items) i (sectionIn (p .piece)) (omega (arith, seen-length items)))
       ∙ (sym
-      (pairs-step w (count - (i + 1)) (drop next s) (take i items) (p .section) (drop (next + 2 * w) s)
+      (pairs-step w (count - (i + 1)) (drop next s) (take i (seen items)) (sectionIn (p .piece)) (drop (next + 2 * w) s)
       (q .meaning ∙ pair-got p _ e))
-      ∙ ap (λ n. readAfter (take i items) (PairsLeft w n (drop next s))) (sym one-less))
+      ∙ ap (λ n. readAfter (take i (seen items)) (PairsLeft w n (drop next s))) (sym one-less))
 
   pub left-bad : p .ok ≡ false → Left w s count next i items ≡ bad
   left-bad e =
-      ap (λ n. readAfter (take i items) (PairsLeft w n (drop next s))) one-less
-      ∙ pairs-stop w (count - (i + 1)) (drop next s) (take i items) (q .meaning ∙ pair-bad p _ e)
+      ap (λ n. readAfter (take i (seen items)) (PairsLeft w n (drop next s))) one-less
+      ∙ pairs-stop w (count - (i + 1)) (drop next s) (take i (seen items)) (q .meaning ∙ pair-bad p _ e)
 
-pub left-end : (w : ℕ) (s : List ℕ) (count next : ℕ) (items : List Section)
-    → Left w s count next count items ≡ got (take count items) (drop next s)
+pub left-end : (w : ℕ) (s : List ℕ) (count next : ℕ) (items : List Piece)
+    → Left w s count next count items ≡ got (take count (seen items)) (drop next s)
 left-end w s count next items =
-    ap (λ n. readAfter (take count items) (PairsLeft w n (drop next s))) none-left
-    ∙ pairs-end w (drop next s) (take count items)
+    ap (λ n. readAfter (take count (seen items)) (PairsLeft w n (drop next s))) none-left
+    ∙ pairs-end w (drop next s) (take count (seen items))
   where
     none-left : count - count ≡ 0
     none-left = omega arith
@@ -113,17 +117,17 @@ unfolding pairsIn listOf
 no-pairs-at w s at n p e k =
     record {
       meaning = e ∙ sym (rw (k .0) refl);
-      equal = k .1 ∙ sym (ap (λ m. blockCount (take m (p .list .items))) (k .2));
+      equal = k .1 ∙ sym (ap (λ m. blockCount (take m (seen (p .list .items)))) (k .2));
       most = omega (arith, k .1);
       count = λ t. absurd (let z : _≡_ {A = ℕ} 0 1 = cc (t, k .0) in omega arith);
       places = omega (arith, k .2);
-      exact = ap (λ m. length (take m (p .list .items))) (k .2) ∙ sym (k .2);
+      exact = ap (λ m. length (take m (seen (p .list .items)))) (k .2) ∙ sym (k .2);
       inside = λ t. absurd (let z : _≡_ {A = ℕ} 0 1 = cc (t, k .0) in omega arith);
     }
 
-pub some-pairs-at : (w : ℕ) (s : List ℕ) (at n sum end : ℕ) (items : List Section)
-    → PairsLeft w n (drop at s) ≡ got (take n items) (drop end s)
-    → sum ≡ blockCount (take n items) → sum ≤ greatestDisk * n → n ≤ piecePlaces → n ≤ length items
+pub some-pairs-at : (w : ℕ) (s : List ℕ) (at n sum end : ℕ) (items : List Piece)
+    → PairsLeft w n (drop at s) ≡ got (take n (seen items)) (drop end s)
+    → sum ≡ blockCount (take n (seen items)) → sum ≤ greatestDisk * n → n ≤ piecePlaces → n ≤ length items
     → end ≤ length s
     → PairsAt w s at n (record { ok = true; sum = sum; end = end; list = record { count = n; items = items } })
 unfolding pairsIn listOf
@@ -134,7 +138,7 @@ some-pairs-at w s at n sum end items e q m h k l =
       most = omega arith;
       count = λ _. refl;
       places = h;
-      exact = length-take-le n items k;
+      exact = length-take-le n (seen items) (omega (arith, seen-length items));
       inside = λ _. l;
     }
 

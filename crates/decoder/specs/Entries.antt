@@ -36,12 +36,12 @@ entryIn e r = elim (e .ok) as (λ _. Read File) [ true ↦ got (fileOf (e .entry
 
 -- e has no file
 abbrev pub NoFile : EntryRead → Type 0
-NoFile e = (e .ok ≡ false) × (e .n ≡ 0) × (e .size ≡ 0) × (e .entry .count ≡ 0) × (piecesIn (e .entry) ≡ [])
+NoFile e = (e .ok ≡ false) × (e .n ≡ 0) × (e .size ≡ 0) × (e .entry .pieces .count ≡ 0) × (piecesIn (e .entry) ≡ [])
 
 -- e is the entry at the front of the bytes, with fields of w bytes for numbers of blocks
 pub record EntryAt (w : ℕ) (s : List ℕ) (e : EntryRead) : Type 0 where
   pub meaning : accepted (readEntry w s) ≡ entryIn e (drop (e .size) s)
   pub pages : e .n ≡ fileBlocks (fileOf (e .entry))
   pub most : e .n ≤ greatestDisk * piecePlaces
-  pub places : e .entry .count ≤ piecePlaces
+  pub places : e .entry .pieces .count ≤ piecePlaces
   pub inside : e .size ≤ length s

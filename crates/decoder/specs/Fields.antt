@@ -9,6 +9,7 @@ use Rattle.section.specs.Limits.{greatestDisk}
 use Rattle.section.specs.Sections.{lengthOf}
 use Rattle.layout.specs.Layout.{blockCount}
 use Rattle.piece_lists.specs.Few.{listOf, piecePlaces}
+use Rattle.piece.specs.Packed.{sectionIn}
 use Rattle.catalogue.specs.Encoding.{byteValues}
 use Rattle.catalogue.specs.Reading.{Read, got, bad, then, readField, readPair, readPairs}
 use Rattle.decoder.specs.declared.PairRead.{PairRead}
@@ -21,12 +22,12 @@ pub record FieldAt (w : ℕ) (s : List ℕ) (at r : ℕ) : Type 0 where
 
 -- what was read, if it was, before the bytes that are left
 unfoldable pub pairIn : PairRead → List ℕ → Read Section
-pairIn p r = elim (p .ok) as (λ _. Read Section) [ true ↦ got (p .section) r | false ↦ bad ]
+pairIn p r = elim (p .ok) as (λ _. Read Section) [ true ↦ got (sectionIn (p .piece)) r | false ↦ bad ]
 
 -- p is the pair of fields of w bytes at a place
 pub record PairAt (w : ℕ) (s : List ℕ) (at : ℕ) (p : PairRead) : Type 0 where
   pub meaning : readPair w (drop at s) ≡ pairIn p (drop (at + 2 * w) s)
-  pub equal : p .length ≡ lengthOf (p .section)
+  pub equal : p .length ≡ lengthOf (sectionIn (p .piece))
   pub most : p .length ≤ greatestDisk
   pub inside : p .ok ≡ true → at + 2 * w ≤ length s
 

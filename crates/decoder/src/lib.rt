@@ -1,7 +1,7 @@
 // The bytes of a catalogue: a table is read from them, and refused unless it is sound.
 use catalogue::Version;
+use piece::Piece;
 use piece_lists::Pieces;
-use section::Section;
 use soundness::is_sound;
 use table::Entry;
 use table::Table;
@@ -19,11 +19,11 @@ pub mod pieces;
 pub mod tables;
 pub mod zeros;
 
-// A pair, if there is one: the section and its length.
+// A pair, if there is one: the piece and its length.
 pub struct PairRead {
     pub ok: bool,
     pub length: u32,
-    pub section: Section,
+    pub piece: Piece,
 }
 
 // Pairs in the order of the bytes, if all of them were read, the sum of their lengths, and the place after them.

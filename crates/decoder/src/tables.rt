@@ -1,12 +1,12 @@
 // The whole catalogue, read into a table.
 use crate::TableRead;
 use crate::entries::read_entry;
-use crate::fields::no_section;
 use crate::fields::read_field;
 use crate::fields::read_pairs;
 use crate::pieces::no_entry;
 use catalogue::Version;
 use free_pieces::Free;
+use piece::Piece;
 use piece_lists::Pieces;
 use section::Height;
 use section::Section;
@@ -24,14 +24,14 @@ pub fn no_table() -> Table
     ensures { λ r. ⌜ Exact r × (r .free .count ≡ 0) ⌝ }
 {
     let entry = no_entry(0);
-    let section = no_section();
+    let none = Piece { word: 0 };
     Table {
         blocks: 0,
         count: 0,
         files: [entry; Section::MOST_FILES],
         free: Free {
             count: 0,
-            items: [section; Free::PLACES],
+            items: [none; Free::PLACES],
         },
     }
 }

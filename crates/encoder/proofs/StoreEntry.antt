@@ -34,7 +34,7 @@ pair-written w s n {b = b} {c = c} {q = q} {r = r} e x y =
 -- ---- an entry, from its blocks and its sorted pieces
 
 module _ (w : ℕ) (e : Entry) (n : ℕ) (blocks : n ≡ fileBlocks (fileOf e)) (s : Pieces)
-    (sorted : ListsFew (e .count) (sortBy byFirst (piecesIn e)) s) where
+    (sorted : ListsFew (e .pieces .count) (sortBy byFirst (piecesIn e)) s) where
   pub entry-parts : entryBytes w (fileOf e)
       ≡ bigEndian shortField (e .id) ++ (bigEndian w n ++ pairsBytes w (listOf s))
   unfolding entryBytes

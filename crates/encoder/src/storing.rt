@@ -15,15 +15,29 @@ ghost use Rattle.layout.specs.Sound.{Sound};
 ghost use Rattle.piece_lists.specs.Few.{listOf, piecePlaces};
 ghost use Rattle.table.specs.Tables.{Sized, fileOf, layoutOf};
 ghost use Rattle.catalogue.specs.Encoding.{bigEndian, encode, entryBytes, pairBytes, pairsBytes};
-ghost use Rattle.catalogue.specs.Version.{OneOf, versions};
+ghost use Rattle.catalogue.specs.Version.{OneOf, shortField, versions};
 ghost use Rattle.pieces.specs.Pieces.{Low, LowEntry};
 ghost use Rattle.encoder.specs.Store.{Room, Written, headerFields, noFiles};
 
-// Writes a number in `width` bytes, the highest first: from the last byte to the first.
+// Writes a number in 2 bytes.
+fn write_short(cat: &mut [u8], at: usize, value: u32) -> usize
+    requires { ⌜ Room (now cat) at (bigEndian shortField value) ⌝ }
+    ensures { λ r. ⌜ Written (now (cat .entry)) at (bigEndian shortField value) (now (cat .exit)) r ⌝ }
+{
+    cat[at + 1] = (value % 256) as u8;
+    cat[at] = (value / 256 % 256) as u8;
+    at + Version::SHORT_FIELD
+}
+
+// Writes a number in `width` bytes, the highest first: from the last byte to the first. In 2 bytes, as most are, it is
+// written without a loop.
 fn write_field(cat: &mut [u8], at: usize, width: usize, value: u32) -> usize
     requires { ⌜ Room (now cat) at (bigEndian width value) ⌝ }
     ensures { λ r. ⌜ Written (now (cat .entry)) at (bigEndian width value) (now (cat .exit)) r ⌝ }
 {
+    if width == Version::SHORT_FIELD {
+        return write_short(cat, at, value);
+    }
     let mut rest = value;
     let mut i = width;
     while 0 < i {
@@ -58,7 +72,8 @@ fn write_pairs(cat: &mut [u8], at: usize, width: usize, l: Pieces) -> usize
     let mut next = at;
     let mut i: usize = 0;
     while i < count {
-        let s = l.items[i];
+        let piece = l.items[i];
+        let s = piece.section();
         next = write_pair(cat, next, width, s);
         i += 1;
     }

@@ -10,6 +10,7 @@ use lib.Seq.{getD-take, length-take-le}
 use Rattle.layout.specs.Adding.{Taken, keeping, nothing, takeFirst, takeOfHeight, taken}
 use Rattle.layout.specs.Removing.{MergePair, fewer, mergePair, pair, secondOf, withLower}
 use Rattle.section.specs.declared.Section.{Section}
+use Rattle.piece.specs.Packed.{sectionIn}
 use Rattle.free_pieces.specs.Free.{freeOf, lowestPair, pairOf, takenOf}
 use Rattle.piece_lists.specs.Places.{firstPlace, withoutAt}
 use Rattle.free_pieces.specs.declared.Drawn.{Drawn}
@@ -59,7 +60,7 @@ module _ (q : Section → Bool) (items : List Section) (m i : ℕ) (hm : m ≤ l
 
 -- ---- what was drawn
 
-pub drawn-there : (d : Drawn) → d .found ≡ true → takenOf d ≡ taken (d .section) (freeOf (d .rest))
+pub drawn-there : (d : Drawn) → d .found ≡ true → takenOf d ≡ taken (sectionIn (d .piece)) (freeOf (d .rest))
 unfolding takenOf
 drawn-there d e = rw e
 
@@ -70,25 +71,27 @@ drawn-not d e = rw e
 -- ---- the lowest two of a height, by taking twice
 
 second-is : (l : Section) (b : Drawn)
-    → pairOf (record { found = b .found; lower = l; upper = b .section; others = b .rest })
+    → pairOf (record { found = b .found; lower = l; upper = sectionIn (b .piece); others = b .rest })
     ≡ withLower l (takenOf b)
 unfolding pairOf takenOf
 second-is l b = go (b .found)
   where
     go : (t : Bool)
-        → elim t as (λ _. MergePair) [ true ↦ pair l (b .section) (freeOf (b .rest)) | false ↦ fewer ]
-        ≡ withLower l (elim t as (λ _. Taken) [ true ↦ taken (b .section) (freeOf (b .rest)) | false ↦ nothing ])
+        → elim t as (λ _. MergePair) [ true ↦ pair l (sectionIn (b .piece)) (freeOf (b .rest)) | false ↦ fewer ]
+        ≡ withLower l
+        (elim t as (λ _. Taken) [ true ↦ taken (sectionIn (b .piece)) (freeOf (b .rest)) | false ↦ nothing ])
     go true = refl
     go false = refl
 
 module _ (h : ℕ) (free : List Section) (a : Drawn) (ea : takenOf a ≡ takeOfHeight h free) where
   pub pair-is : (b : Drawn) → a .found ≡ true → takenOf b ≡ takeOfHeight h (freeOf (a .rest))
-      → pairOf (record { found = b .found; lower = a .section; upper = b .section; others = b .rest })
+      → pairOf (record
+      { found = b .found; lower = sectionIn (a .piece); upper = sectionIn (b .piece); others = b .rest })
       ≡ mergePair h free
   unfolding mergePair
   pair-is b f eb =
-      second-is (a .section) b
-      ∙ (ap (withLower (a .section)) eb ∙ ap (secondOf h) (sym (drawn-there a f) ∙ ea))
+      second-is (sectionIn (a .piece)) b
+      ∙ (ap (withLower (sectionIn (a .piece))) eb ∙ ap (secondOf h) (sym (drawn-there a f) ∙ ea))
 
   pub fewer-is : a .found ≡ false → fewer ≡ mergePair h free
   unfolding mergePair

@@ -17,6 +17,7 @@ use Rattle.layout.specs.Lists.{insertBy, sumOf}
 use Rattle.section.specs.Limits.{greatestDisk, greatestHeight, heightCount}
 use Rattle.section.specs.Sections.{lengthOf, section}
 use Rattle.section.specs.declared.Section.{Section}
+use Rattle.piece.specs.Packed.{sectionIn}
 use Rattle.free_pieces.proofs.Draws.{drawn-not, drawn-there}
 use Rattle.free_pieces.specs.Free.{freeOf, takenOf}
 use Rattle.free_pieces.specs.Taking.{Stocked, ToHalve, Yields, splitPiece}
@@ -84,7 +85,7 @@ stock-few {l} s =
 
 -- what was taken is on the disk, and what is left is stock
 pub took : (k h : ℕ) (free : Free) (d : Drawn) → Stocked free → takenOf d ≡ takePiece k h (freeOf free)
-    → d .found ≡ true → TakesPiece greatestDisk h (freeOf free) (d .section) (freeOf (d .rest))
+    → d .found ≡ true → TakesPiece greatestDisk h (freeOf free) (sectionIn (d .piece)) (freeOf (d .rest))
 took k h free d s e f =
     subst (TakesPieceOf greatestDisk k h (freeOf free)) (sym e ∙ drawn-there d f)
     (takePiece-is greatestDisk k h (freeOf free) (stock-of s))
@@ -94,7 +95,7 @@ pub to-halve : (k h : ℕ) (free : Free) (d : Drawn) → h < greatestHeight → 
     → length (freeOf (d .rest)) ≡ d .rest .count → ToHalve h d
 to-halve k h free d l s e f x =
     let t = took k (h + 1) free d s e f in
-    let p : lengthOf (d .section) ≡ 2 ^ suc h = ap (λ z. 2 ^ z) (t .height ∙ add-one h) in
+    let p : lengthOf (sectionIn (d .piece)) ≡ 2 ^ suc h = ap (λ z. 2 ^ z) (t .height ∙ add-one h) in
     record {
       low = omega arith;
       there = f;
@@ -103,8 +104,8 @@ to-halve k h free d l s e f x =
     }
 
 pub halved-is : (h : ℕ) (d : Drawn) → d .found ≡ true
-    → taken (section (d .section .first) h)
-    (insertBy byFirst (section (d .section .first + 2 ^ h) h) (freeOf (d .rest)))
+    → taken (section (sectionIn (d .piece) .first) h)
+    (insertBy byFirst (section (sectionIn (d .piece) .first + 2 ^ h) h) (freeOf (d .rest)))
     ≡ splitAt h (takenOf d)
 halved-is h d e = ap (splitAt h) (sym (drawn-there d e))
 

@@ -6,12 +6,12 @@ use Prim.Native.Nat.{_+_, _-_, _≤_, suc, zero, ℕ}
 use native.Mathlib.Numerals.{add-one}
 use native.Mathlib.Omega.{arith}
 use lib.ListN.{replicate}
-use Rattle.piece_lists.specs.Few.{piecePlaces}
+use Rattle.piece_lists.specs.Few.{listOf, piecePlaces}
 use Rattle.layout.specs.Adding.{Allocated, Taken, allocate, allocated, nothing, takePiece, taken, tooFew, withPiece}
 use Rattle.layout.specs.Layout.{digit}
 use Rattle.section.specs.Limits.{greatestHeight, heightCount}
-use Rattle.section.specs.Sections.{section}
 use Rattle.section.specs.declared.Section.{Section}
+use Rattle.piece.specs.Packed.{noPiece, sectionIn}
 use Rattle.free_pieces.proofs.Draws.{drawn-not, drawn-there}
 use Rattle.free_pieces.proofs.LaidMore.{Extends}
 use Rattle.free_pieces.proofs.PieceTaken.{stocked-after}
@@ -138,7 +138,7 @@ onward-take n h p r d l e b m x = go (d .found) refl
     go true f =
         onward-ok n h r (x .ok ∙ f)
         ∙ (ap₂ (λ a z. withPieces a (allocate (heightCount - h) h n (freeOf z))) (x .list f) (x .left f)
-        ∙ (with-last (laidPieces p) (d .section) (allocate (heightCount - h) h n (freeOf (d .rest)))
+        ∙ (with-last (laidPieces p) (sectionIn (d .piece)) (allocate (heightCount - h) h n (freeOf (d .rest)))
         ∙ (ap (λ z. withPieces (laidPieces p) (after n h z)) (sym (drawn-there d f) ∙ m) ∙ sym now)))
     go false f =
         onward-not n h r (x .ok ∙ f)
@@ -173,7 +173,8 @@ onward-end n h p e = go (p .ok)
     go false = refl
 
 pub onward-start : (n : ℕ) (f : Free)
-    → onward n heightCount (record { ok = true; count = 0; items = replicate piecePlaces (section 0 0); free = f })
+    → onward n heightCount
+    (record { ok = true; pieces = record { count = 0; items = replicate piecePlaces noPiece }; free = f })
     ≡ allocate 0 heightCount n (freeOf f)
-unfolding onward withPieces
+unfolding onward withPieces listOf
 onward-start n f = refl

@@ -5,6 +5,7 @@ use mathlib.Core.List.{List}
 use Prim.Native.Nat.{ℕ, zero, suc, _+_, _*_, _≤_}
 use lib.ListN.{length, take}
 use Rattle.section.specs.declared.Section.{Section}
+use Rattle.piece.specs.Packed.{sectionIn, seen}
 use Rattle.layout.specs.Adding.{Taken, taken, nothing}
 use Rattle.layout.specs.Removing.{MergePair, pair, fewer, mergePair}
 use Rattle.piece_lists.specs.Few.{piecePlaces}
@@ -18,7 +19,7 @@ freePlaces = 2 * piecePlaces
 
 -- the free pieces
 unfoldable pub freeOf : Free → List Section
-freeOf f = take (f .count) (f .items)
+freeOf f = take (f .count) (seen (f .items))
 
 -- r stands for the list l of n pieces
 pub record Lists (n : ℕ) (l : List Section) (r : Free) : Type 0 where
@@ -28,7 +29,7 @@ pub record Lists (n : ℕ) (l : List Section) (r : Free) : Type 0 where
 
 -- what was taken, if a piece was found
 unfoldable pub takenOf : Drawn → Taken
-takenOf d = elim (d .found) as (λ _. Taken) [ true ↦ taken (d .section) (freeOf (d .rest)) | false ↦ nothing ]
+takenOf d = elim (d .found) as (λ _. Taken) [ true ↦ taken (sectionIn (d .piece)) (freeOf (d .rest)) | false ↦ nothing ]
 
 -- r is what the definition takes from n pieces
 pub record Draws (n : ℕ) (t : Taken) (r : Drawn) : Type 0 where

@@ -8,6 +8,7 @@ use Rattle.layout.specs.Adding.{Taken, nothing, splitAt, takePiece}
 use Rattle.layout.specs.Layout.{OnDisk, ofHeight}
 use Rattle.layout.specs.Lists.{Each, Pairwise, sumOf}
 use Rattle.section.specs.Limits.{greatestDisk, greatestHeight}
+use Rattle.piece.specs.Packed.{sectionIn}
 use Rattle.section.specs.declared.Section.{Section}
 use Rattle.free_pieces.specs.Free.{freeOf, freePlaces, takenOf}
 use Rattle.free_pieces.specs.declared.Drawn.{Drawn}
@@ -36,7 +37,7 @@ splitPiece (suc k) h free = splitAt h (takePiece k (suc h) free)
 pub record ToHalve (h : ℕ) (d : Drawn) : Type 0 where
   pub low : h ≤ greatestHeight
   pub there : d .found ≡ true
-  pub fits : d .section .first + 2 ^ h ≤ greatestDisk
+  pub fits : sectionIn (d .piece) .first + 2 ^ h ≤ greatestDisk
   pub most : d .rest .count < freePlaces
 
 -- r is d with its section split

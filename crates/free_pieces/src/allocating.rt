@@ -7,43 +7,44 @@ ghost use Rattle.free_pieces.specs.Allocating.{Allots};
 use super::taking::take_piece;
 use crate::Free;
 use crate::Laid;
+use piece::Piece;
 use piece_lists::Pieces;
 use section::Height;
-use section::Section;
 
 // A piece for each 1 of `n`, from the highest down.
 pub fn allocate(free: Free, n: u32) -> Laid
     requires { ⌜ Stocked free ⌝ }
     ensures { λ r. ⌜ Allots (allocate 0 heightCount n (freeOf free)) r ⌝ }
 {
-    let s = Section {
-        first: 0,
-        height: Height { value: 0 },
-    };
-    let mut laid = Laid {
-        ok: true,
+    let none = Piece { word: 0 };
+    let mut list = Pieces {
         count: 0,
-        items: [s; Pieces::PLACES],
-        free,
+        items: [none; Pieces::PLACES],
     };
+    let mut left = free;
     let mut h: u32 = Height::GREATEST + 1;
     while 0 < h {
         h -= 1;
         let height = Height { value: h };
         if n / height.length() % 2 == 1 {
-            let left = laid.free;
             let d = take_piece(left, h);
             if !d.found {
-                laid.ok = false;
-                return laid;
+                return Laid {
+                    ok: false,
+                    pieces: list,
+                    free: left,
+                };
             }
-            let at = laid.count;
-            let piece = d.section;
-            let rest = d.rest;
-            laid.items[at] = piece;
-            laid.count = at + 1;
-            laid.free = rest;
+            let at = list.count;
+            let piece = d.piece;
+            list.items[at] = piece;
+            list.count = at + 1;
+            left = d.rest;
         }
     }
-    laid
+    Laid {
+        ok: true,
+        pieces: list,
+        free: left,
+    }
 }

@@ -3,9 +3,8 @@ ghost use Prim.Native.Nat.{_≤_};
 ghost use Rattle.piece_lists.specs.Few.{listOf, piecePlaces, ListsFew};
 ghost use Rattle.free_pieces.specs.Free.{freeOf, Lists};
 use crate::Free;
+use piece::Piece;
 use piece_lists::Pieces;
-use section::Height;
-use section::Section;
 
 impl Free {
     // The free pieces, where they are few.
@@ -13,12 +12,9 @@ impl Free {
         requires { ⌜ self .count ≤ piecePlaces ⌝ }
         ensures { λ r. ⌜ ListsFew (self .count) (freeOf self) r ⌝ }
     {
-        let s = Section {
-            first: 0,
-            height: Height { value: 0 },
-        };
+        let none = Piece { word: 0 };
         let count = self.count;
-        let mut items = [s; Pieces::PLACES];
+        let mut items = [none; Pieces::PLACES];
         let mut j: usize = 0;
         while j < count {
             let piece = self.items[j];
@@ -33,12 +29,9 @@ impl Free {
         requires { ⌜ list .count ≤ piecePlaces ⌝ }
         ensures { λ r. ⌜ Lists (list .count) (listOf list) r ⌝ }
     {
-        let s = Section {
-            first: 0,
-            height: Height { value: 0 },
-        };
+        let none = Piece { word: 0 };
         let count = list.count;
-        let mut items = [s; Free::PLACES];
+        let mut items = [none; Free::PLACES];
         let mut j: usize = 0;
         while j < count {
             let piece = list.items[j];

@@ -1,6 +1,7 @@
 // The free pieces of a layout as a value: one more, one taken, one split, the two to merge, the pieces of a new file.
 //
 // A list is the first `count` items of an array, so each value stands for one list of the definitions.
+use piece::Piece;
 use piece_lists::Pieces;
 use section::Section;
 
@@ -16,7 +17,7 @@ pub use taking::take_piece;
 // The free pieces by rising first block. Between a release and its merges there are more than a sound layout has.
 pub struct Free {
     pub count: usize,
-    pub items: [Section; Free::PLACES],
+    pub items: [Piece; Free::PLACES],
 }
 
 impl Free {
@@ -27,7 +28,7 @@ impl Free {
 // A piece that was taken and the pieces that are left, if one was found.
 pub struct Drawn {
     pub found: bool,
-    pub section: Section,
+    pub piece: Piece,
     pub rest: Free,
 }
 
@@ -42,7 +43,6 @@ pub struct Pair {
 // The pieces of a new file in page order and the free pieces that are left, if there were enough.
 pub struct Laid {
     pub ok: bool,
-    pub count: usize,
-    pub items: [Section; Pieces::PLACES],
+    pub pieces: Pieces,
     pub free: Free,
 }

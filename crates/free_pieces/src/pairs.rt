@@ -15,11 +15,13 @@ impl Free {
         ensures { λ r. ⌜ Pairs (self .count) (mergePair h (freeOf self)) r ⌝ }
     {
         let a = self.take_of_height(h);
-        let lower = a.section;
+        let low = a.piece;
+        let lower = low.section();
         let left = a.rest;
         if a.found {
             let b = left.take_of_height(h);
-            let upper = b.section;
+            let up = b.piece;
+            let upper = up.section();
             let others = b.rest;
             return Pair {
                 found: b.found,
@@ -53,8 +55,7 @@ impl Free {
             let mut j: usize = 0;
             'pieces: while j < m {
                 let piece = self.items[j];
-                let height = piece.height;
-                if height.value == h {
+                if piece.height() == h {
                     n += 1;
                 }
                 j += 1;

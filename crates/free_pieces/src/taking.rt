@@ -6,6 +6,7 @@ ghost use Rattle.free_pieces.specs.Free.{freeOf};
 ghost use Rattle.free_pieces.specs.Taking.{Stocked, Yields, splitPiece, ToHalve, Halves};
 use crate::Drawn;
 use crate::Free;
+use piece::Piece;
 use section::Height;
 use section::Section;
 
@@ -14,22 +15,23 @@ fn halve(d: Drawn, h: u32) -> Drawn
     requires { ⌜ ToHalve h d ⌝ }
     ensures { λ r. ⌜ Halves h d r ⌝ }
 {
-    let s = d.section;
+    let piece = d.piece;
+    let s = piece.section();
     let height = Height { value: h };
     let n = height.length();
-    let lower = Section {
+    let lower = Piece::of(Section {
         first: s.first,
         height,
-    };
+    });
     let upper = Section {
         first: s.first + n,
         height,
     };
     let others = d.rest;
-    let rest = others.with(upper);
+    let rest = others.with(Piece::of(upper));
     Drawn {
         found: true,
-        section: lower,
+        piece: lower,
         rest,
     }
 }
@@ -53,14 +55,11 @@ fn split_piece(free: Free, h: u32) -> Drawn
     requires { ⌜ (h ≤ greatestHeight) × Stocked free ⌝ }
     ensures { λ r. ⌜ Yields (splitPiece (greatestHeight - h) h (freeOf free)) r ⌝ }
 {
-    let s = Section {
-        first: 0,
-        height: Height { value: 0 },
-    };
+    let none = Piece { word: 0 };
     if h == Height::GREATEST {
         return Drawn {
             found: false,
-            section: s,
+            piece: none,
             rest: free,
         };
     }
@@ -70,7 +69,7 @@ fn split_piece(free: Free, h: u32) -> Drawn
     }
     Drawn {
         found: false,
-        section: s,
+        piece: none,
         rest: free,
     }
 }

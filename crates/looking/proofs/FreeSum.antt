@@ -1,4 +1,5 @@
 -- The free blocks of a loaded table: the lengths of its free pieces sum to f. Assumes nothing.
+use Rattle.piece.specs.Packed.{seen}
 use mathlib.Core.Path.{_≡_}
 use Prim.Native.Nat.{_≤_}
 use native.Mathlib.Omega.{arith}
@@ -21,7 +22,7 @@ module _ (t : Table) (o : Opened t) where
   pub opened-stocked : Stocked (t .free)
   opened-stocked = sound-stocked t (o .rules) (o .sized .free) (o .free)
 
-  pub free-blocks : blockCount (take (t .free .count) (t .free .items)) ≡ freeBlocks (layoutOf t)
+  pub free-blocks : blockCount (take (t .free .count) (seen (t .free .items))) ≡ freeBlocks (layoutOf t)
   unfolding layoutOf freeOf
   free-blocks = o .rules .free-sum
 

@@ -43,7 +43,7 @@ module _ (t : Table) (opened : Opened t) (id i : ℕ)
     unfolding layoutOf
     looked-found = find-at t id i room (place .place) looked-place
 
-    pub looked-count : entryAt t i .count ≤ piecePlaces
+    pub looked-count : entryAt t i .pieces .count ≤ piecePlaces
     looked-count = each-get {P = InPlaces} i noEntry (opened .sized .each) (omega (arith, room, looked-place))
 
     looked-file : (r : List File) × Find id (layoutOf t .files) (fileOf (entryAt t i)) r

@@ -14,10 +14,11 @@ use table::Table;
 
 // The pieces of a file less one.
 fn breaks_of(e: Entry) -> u32
-    requires { ⌜ (1 ≤ blockCount (piecesIn e)) × (e .count ≤ piecePlaces) ⌝ }
+    requires { ⌜ (1 ≤ blockCount (piecesIn e)) × (e .pieces .count ≤ piecePlaces) ⌝ }
     ensures { λ r. ⌜ r ≡ breaksOf (piecesIn e) ⌝ }
 {
-    (e.count - 1) as u32
+    let list = e.pieces;
+    (list.count - 1) as u32
 }
 
 // How many breaks a file has.

@@ -13,7 +13,8 @@ pub fn free_in(t: Table) -> u32
     let mut sum: u32 = 0;
     let mut j: usize = 0;
     while j < count {
-        let s = items[j];
+        let piece = items[j];
+        let s = piece.section();
         let h = s.height;
         sum += h.length();
         j += 1;

@@ -1,15 +1,16 @@
 // Lists of few pieces as values of the code, and their orders.
 //
-// A list is the first `count` items of an array, so each value stands for one list of the definitions.
+// A list is the first `count` items of an array, so each value stands for one list of the definitions. One of this size
+// is passed on without a call that copies it.
+use piece::Piece;
 use section::Height;
-use section::Section;
 
 mod sorting;
 
 // Few pieces: no more than a file of a sound layout has, or its free space.
 pub struct Pieces {
     pub count: usize,
-    pub items: [Section; Pieces::PLACES],
+    pub items: [Piece; Pieces::PLACES],
 }
 
 impl Pieces {

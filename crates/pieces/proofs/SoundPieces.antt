@@ -1,4 +1,6 @@
 -- The pieces of a sound table: every height has a length, and the free ones are few. Assumes nothing.
+use Rattle.piece.specs.Packed.{seen}
+use Rattle.piece.proofs.Seen.{seen-length}
 use mathlib.Core.List.{_++_}
 use mathlib.Core.Path.{_≡_}
 use Prim.Native.Nat.{_<_, _≤_}
@@ -34,7 +36,7 @@ module _ (t : Table) (sized : Sized t) (sound : Sound heightCount (layoutOf t)) 
   free-places e = omega (
     arith,
     free-few heightCount (layoutOf t) (omega arith) (sound .most-blocks) (sound .free-count),
-    length-take-le (t .free .count) (t .free .items) (omega (arith, sized .free)),
+    length-take-le (t .free .count) (seen (t .free .items)) (omega (arith, seen-length (t .free .items), sized .free)),
   )
 
   pub files-low : LowFiles t

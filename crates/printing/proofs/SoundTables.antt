@@ -1,9 +1,10 @@
 -- What a sound table gives: files that fit the disk, and room for the text. Assumes nothing.
+use Rattle.piece.specs.Packed.{seen}
 use mathlib.Core.List.{List, [], _∷_}
 use Prim.Native.Nat.{_≤_, suc, zero, ℕ}
 use native.Mathlib.Omega.{arith}
 use lib.ListN.{length, take}
-use Rattle.piece_lists.specs.Few.{piecePlaces}
+use Rattle.piece_lists.specs.Few.{listOf, piecePlaces}
 use Rattle.section.specs.Limits.{heightCount}
 use Rattle.layout.proofs.Lists.{each-imp, each-map}
 use Rattle.layout.specs.Layout.{File, fileBlocks}
@@ -30,14 +31,15 @@ module _ (t : Table) (z : Sized t) (s : Sound heightCount (layoutOf t)) where
   files-fit = s .pages-fit
 
   few-pieces : Each (λ (f : File). length (f .pieces) ≤ piecePlaces) (filesOf t)
-  unfolding filesOf
+  unfolding filesOf listOf
   few-pieces =
       each-map fileOf
-      (each-imp (λ (a : Entry) h. omega (arith, take-most (a .count) (a .items))) (each-take (t .count) (z .each)))
+      (each-imp (λ (a : Entry) h. omega (arith, take-most (a .pieces .count) (seen (a .pieces .items))))
+      (each-take (t .count) (z .each)))
 
   few-free : length (freeOf (t .free)) ≤ freePlaces
   unfolding freeOf
-  few-free = omega (arith, take-most (t .free .count) (t .free .items))
+  few-free = omega (arith, take-most (t .free .count) (seen (t .free .items)))
 
   pub table-room : (o : List ℕ) → textRoom ≤ length o → Room 0 (layoutText (layoutOf t)) o
   unfolding layoutOf

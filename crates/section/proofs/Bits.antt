@@ -5,9 +5,9 @@ use mathlib.Core.Logic.{inl, inr}
 use Prim.Native.Nat.{ℕ, _+_, _-_, _*_, _/_, _%_, _^_, _<_, _≤_}
 use native.Mathlib.Nat.{add-mul, add-zero, mod-eq-of-lt, mod-lt, one-mul, zero-lt-suc}
 use native.Mathlib.Omega.{arith}
-use lib.Bits.{and-le-l, and-le-r, and-mask, bitOr, bitXor, differ, or-add-and, or-comm, xor-add-and}
-use lib.Bits.{xor-block, xor-comm, xor-self, xor-shr, xor-step, xor-zero-r}
-use lib.Dec.{leb, ltb}
+use lib.Bits.{and-high, and-le-l, and-le-r, and-mask, bitAnd, bitOr, bitXor, differ, or-add-and, or-comm}
+use lib.Bits.{xor-add-and, xor-block, xor-comm, xor-lt, xor-self, xor-shr, xor-step, xor-zero-r}
+use lib.Dec.{eqb, leb, ltb}
 use lib.Pow.{high, le-ones, pow-mono, pow-pos, pow-lt, shr-lt, split}
 use borrow.Author.Tests.{eq-eqb, le-leb, le-ltb, lt-leb, lt-ltb, ne-eqb}
 use Rattle.section.specs.Sections.{buddyFirst}
@@ -118,12 +118,38 @@ shared-by-longer g h a b l ha hb = go (nested-or-apart g h a b l ha hb)
     go (after u) =
         far (λ x. omega (arith, x .1)) ∙ sym (ap (λ x. x && ltb b (a + 2 ^ g)) (le-ltb a (b + 2 ^ h) u))
 
--- two aligned sections share a block where their first blocks differ only below the longer one's bit
-pub shared-by-masks : (g h a b : ℕ) → a % 2 ^ g ≡ 0 → b % 2 ^ h ≡ 0
-    → leb (bitXor a b) (bitOr (2 ^ g - 1) (2 ^ h - 1)) ≡ (ltb a (b + 2 ^ h) && ltb b (a + 2 ^ g))
-shared-by-masks g h a b ha hb =
-    elim (below-or-not g h) [
-      | inl x ↦ ap (leb (bitXor a b)) (mask-or g h (omega arith)) ∙ shared-by-longer g h a b (omega arith) ha hb
-      | inr x ↦ ap₂ leb (xor-comm a b) (or-comm (2 ^ g - 1) (2 ^ h - 1) ∙ mask-or h g x)
-          ∙ (shared-by-longer h g b a x hb ha ∙ and-swap (ltb b (a + 2 ^ g)) (ltb a (b + 2 ^ h)))
+-- a number of w bits has none from the bit k on where it is no greater than the mask of that bit
+none-above : (w k x : ℕ) → k ≤ w → x < 2 ^ w → eqb (bitAnd x (2 ^ w - 1 - (2 ^ k - 1))) 0 ≡ leb x (2 ^ k - 1)
+none-above w k x l u =
+    let e : w ≡ w - k + k = omega arith in
+    let mask : 2 ^ w - 1 - (2 ^ k - 1) ≡ 2 ^ (w - k + k) - 2 ^ k =
+    omega (arith, ap (λ (z : ℕ). 2 ^ z) e, pow-pos k, pow-mono l) in
+    let above : bitAnd x (2 ^ w - 1 - (2 ^ k - 1)) ≡ x / 2 ^ k * 2 ^ k =
+    ap (bitAnd x) mask
+    ∙ (and-high x (w - k) k
+    ∙ ap (λ (z : ℕ). z * 2 ^ k) (mod-eq-of-lt (shr-lt {n = x} (w - k) k (subst (λ (z : ℕ). x < 2 ^ z) e u)))) in
+    elim (below-or-not x (2 ^ k)) [
+      | inl s ↦ eq-eqb (bitAnd x (2 ^ w - 1 - (2 ^ k - 1))) 0 (above ∙ omega (arith, split x k, mod-eq-of-lt s))
+          ∙ sym (le-leb x (2 ^ k - 1) (le-ones k s))
+      | inr s ↦ ne-eqb (bitAnd x (2 ^ w - 1 - (2 ^ k - 1))) 0
+          (λ z. omega (arith, above, split x k, mod-lt x (pow-pos k)))
+          ∙ sym (lt-leb x (2 ^ k - 1) (omega (arith, pow-pos k)))
     ]
+
+-- two aligned sections share a block where their first blocks, of w bits, are the same from the longer one's bit on
+pub shared-by-masks : (w g h a b : ℕ) → g ≤ w → h ≤ w → a < 2 ^ w → b < 2 ^ w → a % 2 ^ g ≡ 0 → b % 2 ^ h ≡ 0
+    → eqb (bitAnd (bitXor a b) (2 ^ w - 1 - bitOr (2 ^ g - 1) (2 ^ h - 1))) 0
+    ≡ (ltb a (b + 2 ^ h) && ltb b (a + 2 ^ g))
+shared-by-masks w g h a b lg lh la lb ha hb =
+    elim (below-or-not g h) [
+      | inl x ↦ above h (mask-or g h (omega arith)) lh ∙ shared-by-longer g h a b (omega arith) ha hb
+      | inr x ↦ above g (or-comm (2 ^ g - 1) (2 ^ h - 1) ∙ mask-or h g x) lg
+          ∙ (ap (λ (z : ℕ). leb z (2 ^ g - 1)) (xor-comm a b)
+          ∙ (shared-by-longer h g b a x hb ha ∙ and-swap (ltb b (a + 2 ^ g)) (ltb a (b + 2 ^ h))))
+    ]
+  where
+    above : (k : ℕ) → bitOr (2 ^ g - 1) (2 ^ h - 1) ≡ 2 ^ k - 1 → k ≤ w
+        → eqb (bitAnd (bitXor a b) (2 ^ w - 1 - bitOr (2 ^ g - 1) (2 ^ h - 1))) 0 ≡ leb (bitXor a b) (2 ^ k - 1)
+    above k e l =
+        ap (λ (z : ℕ). eqb (bitAnd (bitXor a b) (2 ^ w - 1 - z)) 0) e
+        ∙ none-above w k (bitXor a b) l (xor-lt w a b la lb)

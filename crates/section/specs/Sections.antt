@@ -7,6 +7,7 @@ use mathlib.Core.Bool.{Bool, cond, true, _&&_}
 use Prim.Native.Nat.{ℕ, suc, _+_, _-_, _*_, _/_, _%_, _^_, _<_, _≤_}
 use lib.Dec.{eqb, ltb, leb}
 use Rattle.section.specs.Heights.{NoHigher}
+use Rattle.section.specs.Limits.{greatestDisk}
 use Rattle.section.specs.declared.Section.{Section}
 
 -- ---- blocks in a row
@@ -74,11 +75,12 @@ movedInto b u s = cond (isInside s b) (section (u .first + (s .first - b .first)
 
 -- ---- numbers that the functions serve
 
--- the mask of an aligned section: one less than its length
-pub record IsMask (s : Section) (n : ℕ) : Type 0 where
-  pub equal : n ≡ lengthOf s - 1
+-- a and n are the first block and the mask of an aligned section: the mask is one less than its length
+pub record Spans (s : Section) (a n : ℕ) : Type 0 where
+  pub first : a ≡ s .first
+  pub mask : n ≡ lengthOf s - 1
   pub aligned : isAligned s ≡ true
 
--- its end and its parent's end fit a word
+-- a height and a first block that a section of some disk can have: ends, parents and sums of two such fit a word
 abbrev pub Addressable : Section → Type 0
-Addressable s = (NoHigher (s .height)) × (s .first < 2 ^ 31)
+Addressable s = (NoHigher (s .height)) × (s .first < greatestDisk)

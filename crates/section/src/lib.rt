@@ -2,8 +2,8 @@
 //
 // Which numbers are served. `Height::of_length` takes any number and refuses what is no length by its answer.
 // `is_on_disk` takes any first block and any number of blocks. Every other function asks for what a section of a disk
-// gives: a height up to the greatest, which `of_length` answers, and a first block below 2^31, by `is_on_disk`;
-// `shares_block` asks for two aligned sections and their masks.
+// gives: a height up to the greatest, which `of_length` answers, and a first block of some disk, by `is_on_disk`.
+// `shares_block` takes any four numbers, and its answer holds of every two aligned sections that they belong to.
 mod limits;
 
 pub use limits::limits_agree;
@@ -11,7 +11,7 @@ ghost use mathlib.Core.Path.{_≡_};
 ghost use Prim.Native.Nat.{_-_};
 ghost use Rattle.section.specs.Heights.{NoHigher, IsLength, heightOf};
 ghost use Rattle.section.specs.Sections.{Addressable, endOf, buddyOf, parentOf, isAligned, isOnDisk, hasBuddy};
-ghost use Rattle.section.specs.Sections.{IsMask, lengthOf, sharesBlock, isInside, movedInto};
+ghost use Rattle.section.specs.Sections.{Spans, lengthOf, sharesBlock, isInside, movedInto};
 
 // The height of a section: its length is 2 to the height.
 pub struct Height {
@@ -148,14 +148,12 @@ impl Section {
         }
     }
 
-    // Whether the two have a block in common: their first blocks differ only below the bit of the longer one's length. The
-    // masks, n and m, are given, so that who compares many sections finds each once.
-    pub fn shares_block(self, n: u32, other: Section, m: u32) -> bool
-        requires { ⌜ IsMask self n ⌝ }
-        requires { ⌜ IsMask other m ⌝ }
-        ensures { λ r. ⌜ r ≡ sharesBlock self other ⌝ }
+    // Whether two sections have a block in common, by their first blocks, a and b, and their masks, n and m: the first
+    // blocks differ only below the bit of the longer one's length. Who compares many sections finds each mask once.
+    pub fn shares_block(a: u32, n: u32, b: u32, m: u32) -> bool
+        ensures { λ r. ⌜ ((s t : Section) → Spans s a n → Spans t b m → r ≡ sharesBlock s t) ⌝ }
     {
-        self.first ^ other.first <= n | m
+        (a ^ b) & !(n | m) == 0
     }
 
     // Whether every block of the section is one of the other's.

@@ -30,7 +30,8 @@ pub fn settle(disk: &mut [u8], table: Table) -> Settled
         let mut i: usize = 0;
         'files: while i < m {
             let e = t.files[i];
-            if e.place_inside(buddy) < e.count {
+            let list = e.pieces;
+            if e.place_inside(buddy) < list.count {
                 let moved = e.moved(buddy, upper);
                 t.files[i] = moved;
             }

@@ -5,10 +5,8 @@ use Prim.Native.Nat.{_+_, _<_, ℕ}
 use native.Mathlib.Numerals.{add-one}
 use lib.ListN.{getD, length, set, take}
 use lib.Seq.{take-suc, take-suc-set}
-use Rattle.soundness.proofs.Points.{blank}
 use Rattle.layout.proofs.Lists.{map-append}
 use Rattle.layout.specs.Layout.{File, filePieces}
-use Rattle.section.specs.declared.Section.{Section}
 use Rattle.table.specs.Tables.{fileOf, piecesIn}
 use Rattle.table.specs.declared.Entry.{Entry}
 
@@ -16,19 +14,9 @@ pub pushed {ℓ} : {A : Type ℓ} (p : List A) (m : ℕ) (a : A) → m < length 
     → take (m + 1) (set p m a) ≡ take m p ++ (a ∷ [])
 pushed p m a h = rw add-one (take-suc-set p m a h)
 
--- the list l, and the first i of some pieces, are the first elements of an array: one more
-pub join-more : (items l pieces : List Section) (at i : ℕ) → at < length items → i < length pieces
-    → take at items ≡ l ++ take i pieces
-    → take (at + 1) (set items at (getD pieces i blank)) ≡ l ++ take (i + 1) pieces
-join-more items l pieces at i h k e =
-    pushed items at (getD pieces i blank) h
-    ∙ (ap (λ z. z ++ (getD pieces i blank ∷ [])) e
-    ∙ (append-assoc l (take i pieces) (getD pieces i blank ∷ [])
-    ∙ ap (λ z. l ++ z) (sym (ap (λ n. take n pieces) (add-one i) ∙ take-suc pieces i blank k))))
-
 -- what stands where there is no file
 abbrev pub blankEntry : Entry
-blankEntry = record { id = 0; count = 0; items = [] }
+blankEntry = record { id = 0; pieces = record { count = 0; items = [] } }
 
 -- the files of the first i entries
 abbrev pub filesTo : ℕ → List Entry → List File
@@ -43,10 +31,6 @@ pieces-append (f ∷ fs) gs =
 one-file : (f : File) → filePieces (f ∷ []) ≡ f .pieces
 unfolding filePieces
 one-file f = append-nil (f .pieces)
-
-pub no-file-pieces : (files : List Entry) → filePieces (filesTo 0 files) ≡ []
-unfolding filePieces
-no-file-pieces files = refl
 
 pub file-pieces-more : (files : List Entry) (i : ℕ) → i < length files
     → filePieces (filesTo (i + 1) files) ≡ filePieces (filesTo i files) ++ piecesIn (getD files i blankEntry)

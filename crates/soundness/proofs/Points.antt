@@ -1,11 +1,11 @@
 -- Tests on every element of an array's first places, and on every two of them, by their places. Assumes nothing.
 use mathlib.Core.Bool.{Bool, false, true}
 use mathlib.Core.List.{List, [], _∷_}
-use mathlib.Core.Path.{_∙_, _≡_, ap, ap₂, refl, subst, sym}
+use mathlib.Core.Path.{_∙_, _≡_, ap, ap₂, refl, sym}
 use Prim.Native.Nat.{_+_, _<_, _≤_, suc, zero, ℕ}
 use native.Mathlib.Omega.{arith}
-use lib.ListN.{getD, length, set, take}
-use lib.Seq.{getD-set-other, getD-set-same, getD-take, length-take-le}
+use lib.ListN.{getD, length, take}
+use lib.Seq.{getD-take, length-take-le}
 use borrow.Author.Count.{below-more}
 use Rattle.catalogue.proofs.Tests.{and-intro}
 use Rattle.catalogue.specs.Reading.{every, pairwise}
@@ -27,7 +27,7 @@ module _ {ℓ} {A : Type ℓ} where
   every-points p [] d h = refl
   every-points p (a ∷ l) d h = and-intro (h 0 (omega arith)) (every-points p l d (λ i q. h (suc i) (omega arith)))
 
-  every-at : (p : A → Bool) (l : List A) (d : A) → every p l ≡ true → (i : ℕ) → i < length l
+  pub every-at : (p : A → Bool) (l : List A) (d : A) → every p l ≡ true → (i : ℕ) → i < length l
       → p (getD l i d) ≡ true
   unfolding every
   every-at p [] d e i h = absurd (omega arith)
@@ -107,14 +107,6 @@ module _ {ℓ} {A : Type ℓ} where
     rows-more i j q fs f =
         below-more (λ a. (b : ℕ) → a < b → b < m → r (getD l a d) (getD l b d) ≡ true) i fs
         (λ b p k. f b (omega arith) p)
-
--- what holds at every place before i, after a write at i, holds at every place before i + 1
-pub below-set {ℓ} : {A : Type ℓ} (P : ℕ → A → Type 0) (l : List A) (i : ℕ) (a d : A) → i < length l
-    → ((k : ℕ) → k < i → P k (getD l k d)) → P i a → (k : ℕ) → k < i + 1 → P k (getD (set l i a) k d)
-below-set P l i a d h f p =
-    below-more (λ k. P k (getD (set l i a) k d)) i
-    (λ k q. subst (P k) (sym (getD-set-other l i k a d (λ e. omega arith))) (f k q))
-    (subst (P i) (sym (getD-set-same l i a d h)) p)
 
 -- what stands where there is no section
 abbrev pub blank : Section

@@ -18,9 +18,10 @@ use Rattle.section.specs.Limits.{greatestDisk, mostFiles, heightCount}
 use Rattle.section.specs.declared.Section.{Section}
 use Rattle.soundness.proofs.Ordered.{distinct, order-both, order-distinct, order-rises, rising}
 use Rattle.soundness.proofs.Points.{false-true, is-false}
-use Rattle.soundness.specs.Checking.{idsRise, noneShared, sumsAgree}
+use Rattle.soundness.specs.Checking.{idsRise, sumsAgree}
 use Rattle.soundness.specs.Counts.{Counted, Exact}
 use Rattle.soundness.specs.Order.{inOrder}
+use Rattle.soundness.specs.Sharing.{noneShared}
 use Rattle.piece_lists.specs.Few.{piecePlaces}
 use Rattle.free_pieces.specs.Free.{freeOf}
 use Rattle.table.specs.Tables.{filesOf, layoutOf}
@@ -98,17 +99,18 @@ module _ (t : Table) (sum free : ℕ) (x : Exact t) (y : Counted t sum free) whe
   pub sums-unsound : sumsAgree (t .blocks) sum free ≡ false → isSound heightCount (layoutOf t) ≡ false
   sums-unsound e = is-false _ (λ u. false-true (sym e ∙ passed u .0))
 
-  -- once the sums agree, the free pieces are few
+  -- once the sums agree, the disk is one that may be
+  pub sums-disk : sumsAgree (t .blocks) sum free ≡ true → t .blocks ≤ greatestDisk
+  unfolding sumsAgree
+  sums-disk e =
+      leb-true (t .blocks) greatestDisk
+      (and-true (leb (t .blocks) greatestDisk) _ (and-true (leb 1 (t .blocks)) _ e .1) .0)
+
+  -- and the free pieces are few
   pub sums-free-few : sumsAgree (t .blocks) sum free ≡ true → t .free .count ≤ piecePlaces
-  unfolding layoutOf sumsAgree
+  unfolding layoutOf
   sums-free-few e =
-      let a = and-true (leb (t .blocks) greatestDisk) _ (and-true (leb 1 (t .blocks)) _ e .1) .0 in
-      omega (
-        arith,
-        x .free,
-        free-few heightCount (layoutOf t) (omega arith) (leb-true (t .blocks) greatestDisk a)
-            (y .free-count),
-      )
+      omega (arith, x .free, free-few heightCount (layoutOf t) (omega arith) (sums-disk e) (y .free-count))
 
   pub ids-unsound : idsRise (filesOf t) ≡ false → isSound heightCount (layoutOf t) ≡ false
   ids-unsound e = is-false _ (λ u. false-true (sym e ∙ passed u .1))

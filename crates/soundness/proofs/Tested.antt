@@ -2,17 +2,19 @@
 use Rattle.section.specs.Limits.{greatestHeight, heightCount, greatestDisk}
 use mathlib.Core.Bool.{Bool, _&&_, false, true}
 use mathlib.Core.List.{List, [], _∷_, map}
+use mathlib.Core.Logic.{_⊎_, inl, inr}
 use mathlib.Core.Path.{_∙_, _≡_, ap, ap₂, refl, subst, sym}
 use Prim.Native.Nat.{_+_, _-_, _<_, _≤_, ℕ}
 use native.Mathlib.Decide.{ℕ-discrete}
 use native.Mathlib.Omega.{arith}
 use lib.Dec.{eqb, leb, ltb}
 use lib.ListN.{getD, length, take}
+use lib.Seq.{getD-take, length-take-le}
 use borrow.Author.Count.{below-more}
-use borrow.Author.Tests.{le-leb, le-ltb, lt-leb, lt-ltb, ltb-true}
-use Rattle.catalogue.specs.Reading.{every, pairwise, soundPiece}
+use borrow.Author.Tests.{le-leb, le-ltb, leb-true, lt-leb, lt-ltb, ltb-true}
+use Rattle.catalogue.specs.Reading.{every, pairwise, soundFile, soundPiece}
 use Rattle.soundness.proofs.Joined.{blankEntry, filesTo}
-use Rattle.soundness.proofs.Points.{pair-fails, pairs-hold}
+use Rattle.soundness.proofs.Points.{every-at, pair-fails, pairs-hold}
 use Rattle.soundness.specs.Checking.{idsRise, sumsAgree}
 use Rattle.layout.specs.Layout.{File}
 use Rattle.section.proofs.Booleans.{and-true, and-true-right, false-and}
@@ -59,13 +61,10 @@ abbrev idBefore : Entry → Entry → Bool
 idBefore a b = ltb (a .id) (b .id)
 
 -- ids rise over the places before i
-abbrev pub Climbs : List Entry → ℕ → Type 0
+abbrev Climbs : List Entry → ℕ → Type 0
 Climbs l i = (a b : ℕ) → a < b → b < i → getD l a blankEntry .id < getD l b blankEntry .id
 
-pub climbs-start : (l : List Entry) → Climbs l 1
-climbs-start l a b p q = absurd (omega arith)
-
-pub climbs-more : (l : List Entry) (i : ℕ) → 1 ≤ i → Climbs l i
+climbs-more : (l : List Entry) (i : ℕ) → 1 ≤ i → Climbs l i
     → getD l (i - 1) blankEntry .id < getD l i blankEntry .id
     → Climbs l (i + 1)
 climbs-more l i h f e a b p q =
@@ -79,19 +78,57 @@ climbs-more l i h f e a b p q =
           | no n ↦ omega (arith, f a (i - 1) (omega (arith, n)) (omega arith))
         ]
 
+-- ids rise over the places before i, and `last` is the one before i, or 0 where there is none
+abbrev pub Rising : List Entry → ℕ → ℕ → Type 0
+Rising l i last =
+    Climbs l i × (((i ≡ 0) × (last ≡ 0)) ⊎ ((1 ≤ i) × (last ≡ getD l (i - 1) blankEntry .id)))
+
+pub rising-start : (l : List Entry) → Rising l 0 0
+rising-start l = (λ a b p q. absurd (omega arith), inl (refl, refl))
+
+module _ (l : List Entry) (i last : ℕ) (f : Climbs l i) where
+  now-last : getD l i blankEntry .id ≡ getD l (i + 1 - 1) blankEntry .id
+  now-last = let e : i ≡ i + 1 - 1 = omega arith in ap (λ k. getD l k blankEntry .id) e
+
+  rising-next : ((i ≡ 0) × (last ≡ 0)) ⊎ ((1 ≤ i) × (last ≡ getD l (i - 1) blankEntry .id))
+      → last < getD l i blankEntry .id
+      → Rising l (i + 1) (getD l i blankEntry .id)
+  rising-next (inl w) e = (λ a b p q. absurd (omega (arith, w .0)), inr (omega arith, now-last))
+  rising-next (inr w) e =
+      (climbs-more l i (w .0) f (subst (λ n. n < getD l i blankEntry .id) (w .1) e), inr (omega arith, now-last))
+
+pub rising-more : (l : List Entry) (i last : ℕ) → Rising l i last → last < getD l i blankEntry .id
+    → Rising l (i + 1) (getD l i blankEntry .id)
+rising-more l i last r = rising-next l i last (r .0) (r .1)
+
 module _ (l : List Entry) (m : ℕ) (h : m ≤ length l) where
-  pub ids-hold : (i : ℕ) → m ≤ i → Climbs l i → idsRise (filesTo m l) ≡ true
-  ids-hold i q f =
+  pub ids-hold : (i last : ℕ) → m ≤ i → Rising l i last → idsRise (filesTo m l) ≡ true
+  ids-hold i last q r =
       pairwise-over (λ (x y : File). ltb (x .id) (y .id)) fileOf (take m l)
       ∙ pairs-hold l m blankEntry h idBefore
-      (λ a b p k. lt-ltb (getD l a blankEntry .id) (getD l b blankEntry .id) (f a b p (omega arith)))
+      (λ a b p k. lt-ltb (getD l a blankEntry .id) (getD l b blankEntry .id) (r .0 a b p (omega arith)))
 
-  pub ids-fail : (i : ℕ) → 1 ≤ i → i < m → getD l i blankEntry .id ≤ getD l (i - 1) blankEntry .id
+  pub ids-fail : (i last : ℕ) → i < m → Rising l i last → 1 ≤ getD l i blankEntry .id
+      → getD l i blankEntry .id ≤ last
       → idsRise (filesTo m l) ≡ false
-  ids-fail i p q e =
-      pairwise-over (λ (x y : File). ltb (x .id) (y .id)) fileOf (take m l)
-      ∙ pair-fails l m blankEntry h idBefore (i - 1) i (omega arith) q
-      (le-ltb (getD l (i - 1) blankEntry .id) (getD l i blankEntry .id) e)
+  ids-fail i last q r some e = go (r .1)
+    where
+      go : ((i ≡ 0) × (last ≡ 0)) ⊎ ((1 ≤ i) × (last ≡ getD l (i - 1) blankEntry .id))
+          → idsRise (filesTo m l) ≡ false
+      go (inl w) = absurd (omega (arith, w .1))
+      go (inr w) =
+          pairwise-over (λ (x y : File). ltb (x .id) (y .id)) fileOf (take m l)
+          ∙ pair-fails l m blankEntry h idBefore (i - 1) i (omega (arith, w .0)) q
+          (le-ltb (getD l (i - 1) blankEntry .id) (getD l i blankEntry .id)
+          (subst (λ n. getD l i blankEntry .id ≤ n) (w .1) e))
+
+  -- no file of those that are sound has the id 0
+  pub sound-id : every soundFile (filesTo m l) ≡ true → (i : ℕ) → i < m → 1 ≤ getD l i blankEntry .id
+  sound-id e i q =
+      let all = sym (every-map soundFile fileOf (take m l)) ∙ e in
+      let one = every-at (λ x. soundFile (fileOf x)) (take m l) blankEntry all i (omega (arith, length-take-le m l h)) in
+      let file = subst (λ x. soundFile (fileOf x) ≡ true) (getD-take m l i blankEntry q) one in
+      leb-true 1 (getD l i blankEntry .id) (and-true (leb 1 (getD l i blankEntry .id)) _ file .0)
 
 -- ---- pieces of the disk
 

@@ -2,3 +2,4 @@
 pub mod Counts
 pub mod Order
 pub mod Checking
+pub mod Sharing

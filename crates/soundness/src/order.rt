@@ -1,21 +1,20 @@
 // The order of pieces in the bytes.
+use piece::Piece;
 use piece_lists::Pieces;
-use section::Section;
 ghost use mathlib.Core.Path.{_≡_};
 ghost use Prim.Native.Nat.{_≤_};
 ghost use Rattle.piece_lists.specs.Few.{listOf, piecePlaces};
+ghost use Rattle.piece.specs.Packed.{sectionIn};
 ghost use Rattle.soundness.specs.Order.{inOrder, inTurn};
 
 // Whether `b` may stand after `a`: it starts later and has another length.
-fn follows(a: Section, b: Section) -> bool
-    ensures { λ r. ⌜ r ≡ inTurn a b ⌝ }
+fn follows(a: Piece, b: Piece) -> bool
+    ensures { λ r. ⌜ r ≡ inTurn (sectionIn a) (sectionIn b) ⌝ }
 {
-    if b.first <= a.first {
+    if b.first() <= a.first() {
         return false;
     }
-    let g = a.height;
-    let h = b.height;
-    g.value != h.value
+    a.height() != b.height()
 }
 
 // Whether first blocks rise and lengths are distinct.

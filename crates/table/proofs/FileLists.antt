@@ -5,17 +5,18 @@ use mathlib.Core.Path.{_∙_, _≡_, ap, ap₂, refl, sym}
 use Prim.Native.Nat.{_+_, _-_, suc, zero, ℕ}
 use lib.Dec.{eqb, leb}
 use lib.ListN.{drop, take}
+use Rattle.piece_lists.specs.Few.{listOf}
 use Rattle.layout.proofs.Lists.{map-append, map-insert}
 use Rattle.layout.specs.Adding.{withFile}
 use Rattle.layout.specs.Layout.{byId}
-use Rattle.layout.specs.Lists.{insertBy}
+use Rattle.layout.specs.Lists.{Each, insertBy, more}
 use Rattle.layout.specs.Removing.{movedFile}
-use Rattle.section.specs.Sections.{movedInto}
+use Rattle.section.specs.Sections.{Addressable}
 use Rattle.section.specs.declared.Section.{Section}
 use Rattle.piece_lists.proofs.Arrays.{insert-withAt}
-use Rattle.table.proofs.MapFirst.{take-mapFirst}
+use Rattle.table.proofs.MapFirst.{pieces-moved}
 use Rattle.table.specs.Files.{noLowerId}
-use Rattle.table.specs.Moves.{mapFirst, movedEntry}
+use Rattle.table.specs.Moves.{PiecesServed, mapFirst, movedEntry}
 use Rattle.piece_lists.specs.Places.{firstPlace, withAt, withoutAt}
 use Rattle.free_pieces.specs.Free.{freeOf}
 use Rattle.table.specs.Tables.{fileOf, filesOf, layoutOf, piecesIn}
@@ -52,18 +53,19 @@ pub files-released : (files rest : List Entry) (m i : ℕ) → take (m - 1) rest
 files-released files rest m i e = ap (map fileOf) e ∙ map-withoutAt fileOf i (take m files)
 
 -- the files when their pieces have moved
-module _ (b u : Section) where
-  file-moved : (e : Entry) → fileOf (movedEntry b u e) ≡ movedFile b u (fileOf e)
-  file-moved e =
+module _ (b u : Section) (hu : Addressable u) where
+  file-moved : (e : Entry) → PiecesServed e → fileOf (movedEntry b u e) ≡ movedFile b u (fileOf e)
+  unfolding listOf
+  file-moved e h =
       ap (λ (z : List Section). record { id = e .id; pieces = z })
-      (take-mapFirst (movedInto b u) (e .count) (e .items))
+      (pieces-moved b u (e .pieces .count) (e .pieces .items) hu h)
 
-  pub files-after : (m : ℕ) (files : List Entry)
+  pub files-after : (m : ℕ) (files : List Entry) → Each PiecesServed (take m files)
       → map fileOf (take m (mapFirst (movedEntry b u) m files)) ≡ map (movedFile b u) (map fileOf (take m files))
   unfolding mapFirst
-  files-after zero files = refl
-  files-after (suc m) [] = refl
-  files-after (suc m) (e ∷ l) = ap₂ (λ x y. x ∷ y) (file-moved e) (files-after m l)
+  files-after zero files a = refl
+  files-after (suc m) [] a = refl
+  files-after (suc m) (e ∷ l) (more h a) = ap₂ (λ x y. x ∷ y) (file-moved e h) (files-after m l a)
 
 -- the files with one more
 pub files-put : (files r : List Entry) (m i : ℕ) (e : Entry) → i ≡ firstPlace (noLowerId (e .id)) (take m files)

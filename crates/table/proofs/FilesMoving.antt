@@ -88,7 +88,7 @@ module _ (p : Pair) (b u : Section) (m : ℕ) (t₀ t : Table) (i : ℕ) (g : Fi
 
   -- the next file has no piece to move
   pub moving-kept : i < m
-      → getD (t .files) i noEntry .count ≤ firstPlace (liesIn b) (piecesIn (getD (t .files) i noEntry))
+      → getD (t .files) i noEntry .pieces .count ≤ firstPlace (liesIn b) (piecesIn (getD (t .files) i noEntry))
       → FilesMoving p b u m t₀ t (i + 1)
   moving-kept h k =
       next-turn t h

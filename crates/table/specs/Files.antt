@@ -22,7 +22,7 @@ noLowerId i e = leb i (e .id)
 
 -- an entry of no pieces
 abbrev pub noEntry : Entry
-noEntry = record { id = 0; count = 0; items = [] }
+noEntry = record { id = 0; pieces = record { count = 0; items = [] } }
 
 abbrev pub entryAt : Table → ℕ → Entry
 entryAt t i = getD (t .files) i noEntry

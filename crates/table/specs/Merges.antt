@@ -21,7 +21,7 @@ pub record Released (t : Table) (i : ℕ) (r : Table) : Type 0 where
   pub sized : Sized r
   pub blocks : r .blocks ≡ t .blocks
   pub count : r .count + 1 ≡ t .count
-  pub free : r .free .count ≡ t .free .count + entryAt t i .count
+  pub free : r .free .count ≡ t .free .count + entryAt t i .pieces .count
   pub exact : length (freeOf (r .free)) ≡ r .free .count
 
 -- what a merge of two free sections asks for

@@ -5,6 +5,8 @@ use Prim.Native.Nat.{suc, zero, ℕ}
 use Rattle.layout.specs.Lists.{Each}
 use Rattle.section.specs.Sections.{Addressable, isInside, movedInto}
 use Rattle.section.specs.declared.Section.{Section}
+use Rattle.piece.specs.Packed.{pieceOf, sectionIn}
+use Rattle.piece.specs.declared.Piece.{Piece}
 use Rattle.table.specs.Tables.{piecesIn}
 use Rattle.table.specs.declared.Entry.{Entry}
 
@@ -18,9 +20,19 @@ mapFirst g n [] = []
 mapFirst g zero (a ∷ l) = a ∷ l
 mapFirst g (suc n) (a ∷ l) = g a ∷ mapFirst g n l
 
+-- a piece when what lies inside b has moved to the same distance inside u
+unfoldable pub movedPiece : Section → Section → Piece → Piece
+movedPiece b u p = pieceOf (movedInto b u (sectionIn p))
+
 -- a file when all that lies inside b has moved to the same distance inside u
 abbrev pub movedEntry : Section → Section → Entry → Entry
-movedEntry b u e = record { id = e .id; count = e .count; items = mapFirst (movedInto b u) (e .count) (e .items) }
+movedEntry b u e = record {
+  id = e .id;
+  pieces = record {
+    count = e .pieces .count;
+    items = mapFirst (movedPiece b u) (e .pieces .count) (e .pieces .items);
+  };
+}
 
 -- what moving pieces from b to u asks for
 pub record CanMove (b u : Section) (l : List Section) : Type 0 where

@@ -6,14 +6,14 @@ use Rattle.section.specs.declared.Section.{Section}
 use Rattle.section.specs.Limits.{mostFiles}
 use Rattle.layout.specs.Layout.{File, Layout}
 use Rattle.layout.specs.Lists.{Each}
-use Rattle.piece_lists.specs.Few.{piecePlaces}
+use Rattle.piece_lists.specs.Few.{listOf, piecePlaces}
 use Rattle.free_pieces.specs.Free.{freeOf, freePlaces}
 use Rattle.table.specs.declared.Entry.{Entry}
 use Rattle.table.specs.declared.Table.{Table}
 
 -- the pieces of a file
 abbrev pub piecesIn : Entry → List Section
-piecesIn e = take (e .count) (e .items)
+piecesIn e = listOf (e .pieces)
 
 abbrev pub fileOf : Entry → File
 fileOf e = record { id = e .id; pieces = piecesIn e }
@@ -26,7 +26,7 @@ unfoldable pub layoutOf : Table → Layout
 layoutOf t = record { blocks = t .blocks; files = filesOf t; free = freeOf (t .free) }
 
 abbrev pub InPlaces : Entry → Type 0
-InPlaces e = e .count ≤ piecePlaces
+InPlaces e = e .pieces .count ≤ piecePlaces
 
 -- the counts are within the arrays
 pub record Sized (t : Table) : Type 0 where

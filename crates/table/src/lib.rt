@@ -18,8 +18,7 @@ pub use merges::free_merged;
 // A file: its id, and its pieces in page order.
 pub struct Entry {
     pub id: u32,
-    pub count: usize,
-    pub items: [Section; Pieces::PLACES],
+    pub pieces: Pieces,
 }
 
 // The disk's blocks, the files by rising id, and the free pieces.

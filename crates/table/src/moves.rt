@@ -5,6 +5,8 @@ ghost use Rattle.piece_lists.specs.Places.{IsPlace, firstPlace};
 ghost use Rattle.table.specs.Tables.{InPlaces, piecesIn};
 ghost use Rattle.table.specs.Moves.{CanMove, PiecesServed, liesIn, movedEntry};
 use crate::Entry;
+use piece::Piece;
+use piece_lists::Pieces;
 use section::Section;
 
 impl Entry {
@@ -13,12 +15,14 @@ impl Entry {
         requires { ⌜ InPlaces self ⌝ }
         requires { ⌜ Addressable from ⌝ }
         requires { ⌜ PiecesServed self ⌝ }
-        ensures { λ r. ⌜ IsPlace (self .count) (firstPlace (liesIn from) (piecesIn self)) r ⌝ }
+        ensures { λ r. ⌜ IsPlace (self .pieces .count) (firstPlace (liesIn from) (piecesIn self)) r ⌝ }
     {
-        let m = self.count;
+        let list = self.pieces;
+        let m = list.count;
         let mut place: usize = 0;
         while place < m {
-            let s = self.items[place];
+            let piece = list.items[place];
+            let s = piece.section();
             if s.is_inside(from) {
                 return place;
             }
@@ -33,18 +37,20 @@ impl Entry {
         requires { ⌜ CanMove from to (piecesIn self) ⌝ }
         ensures { λ r. ⌜ r ≡ movedEntry from to self ⌝ }
     {
-        let m = self.count;
-        let mut items = self.items;
+        let list = self.pieces;
+        let m = list.count;
+        let mut items = list.items;
         let mut j: usize = 0;
         while j < m {
-            let s = items[j];
-            items[j] = s.moved(from, to);
+            let piece = items[j];
+            let s = piece.section();
+            let moved = s.moved(from, to);
+            items[j] = Piece::of(moved);
             j += 1;
         }
         Entry {
             id: self.id,
-            count: m,
-            items,
+            pieces: Pieces { count: m, items },
         }
     }
 }

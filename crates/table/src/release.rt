@@ -14,16 +14,17 @@ use free_pieces::Free;
 
 // The free pieces with those of a file.
 fn free_with(free: Free, e: Entry) -> Free
-    requires { ⌜ (InPlaces e) × (free .count + e .count ≤ freePlaces) ⌝ }
-    ensures { λ r. ⌜ Lists (free .count + e .count) (insertAll (piecesIn e) (freeOf free)) r ⌝ }
+    requires { ⌜ (InPlaces e) × (free .count + e .pieces .count ≤ freePlaces) ⌝ }
+    ensures { λ r. ⌜ Lists (free .count + e .pieces .count) (insertAll (piecesIn e) (freeOf free)) r ⌝ }
 {
-    let items = e.items;
+    let list = e.pieces;
+    let items = list.items;
     let mut all = free;
-    let mut j = e.count;
+    let mut j = list.count;
     while 0 < j {
         j -= 1;
-        let s = items[j];
-        all = all.with(s);
+        let piece = items[j];
+        all = all.with(piece);
     }
     all
 }

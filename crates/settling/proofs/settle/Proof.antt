@@ -69,15 +69,15 @@ element-copy-out-e c = search needs
 
 place-inside-requires : tie.Need-place-inside-requires Inv-files μ-files Inv-merges μ-merges
 place-inside-requires c κs =
-    let g = c .before .before .files .inv in
-    let lt = c .before .files-test .taken in
+    let g = c .before .before .before .files .inv in
+    let lt = c .before .before .files-test .taken in
     let a = moving-can _ _ _ _ _ _ _ g lt in
     (moving-places _ _ _ _ _ _ _ g lt, (a .from, a .pieces))
 
 moved-requires : tie.Need-moved-requires Inv-files μ-files Inv-merges μ-merges
 moved-requires c κs =
-    let g = c .before .before .before .before .before .files .inv in
-    let lt = c .before .before .before .before .files-test .taken in
+    let g = c .before .before .before .before .before .before .files .inv in
+    let lt = c .before .before .before .before .before .files-test .taken in
     (moving-places _ _ _ _ _ _ _ g lt, moving-can _ _ _ _ _ _ _ g lt)
 
 mul-moved : tie.Need-mul-moved Inv-files μ-files Inv-merges μ-merges
@@ -94,10 +94,10 @@ files-less c = search needs
 
 files-again : tie.Need-files-again Inv-files μ-files Inv-merges μ-merges
 files-again c =
-    let l = c .before .before .before .before .before .before .before .before .before .before .before .before .before .before .merges in
-    let f = c .before .before .before .before .before .files in
-    let b = c .before .before .before .before .before .before .buddy .result in
-    let lt = c .before .before .before .before .files-test .taken in
+    let l = c .before .before .before .before .before .before .before .before .before .before .before .before .before .before .before .merges in
+    let f = c .before .before .before .before .before .before .files in
+    let b = c .before .before .before .before .before .before .before .buddy .result in
+    let lt = c .before .before .before .before .before .files-test .taken in
     let Next : Table → Type 0 = λ r. FilesMoving (l .p) b (l .p .upper) (l .t .count) (l .t) r (f .i + 1) in
     elim (c .if1 .came) as (λ _. Next (c .if1 .t)) [
       | inl x ↦ moving-more _ _ _ _ _ _ _ (f .inv) (c .if1 .t) _ lt (ap (λ (r : Table). r .files) (x .2))

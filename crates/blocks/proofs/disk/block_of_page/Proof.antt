@@ -2,47 +2,56 @@
 -- left to pass is the page that is asked for. Assumes nothing.
 -- `block_of_page` goes through the pieces to the one that has the page. Among the pieces left, the page that is
 -- left to pass is the page that is asked for. Assumes nothing.
-use mathlib.Core.Path.{_∙_, _≡_, refl}
-use Prim.Native.Nat.{_*_, _-_, _≤_}
+use Rattle.piece.specs.Packed.{seen}
+use Rattle.piece.proofs.Seen.{seen-length, seen-get}
+use Rattle.section.specs.Sections.{lengthOf}
+use Rattle.section.specs.declared.Section.{Section}
+use mathlib.Core.Path.{_∙_, _≡_, refl, ap, subst, sym}
+use Prim.Native.Nat.{_*_, _-_, _≤_, _+_}
 use native.Mathlib.Omega.{arith}
 use lib.ListN.{drop, getD, length, take}
 use borrow.Author.Needs.{needs}
 use Rattle.blocks.proofs.DiskPieces.{page-here, page-later, page-none, piece-fits}
 use Rattle.layout.specs.Layout.{blocksOf}
+use Rattle.section.specs.Heights.{NoHigher}
 use Rattle.section.specs.Limits.{blockSize, greatestDisk}
 use Rattle.piece_lists.proofs.Arrays.{length-of-mapped}
-use Rattle.piece_lists.specs.Few.{piecePlaces}
+use Rattle.piece_lists.specs.Few.{listOf, piecePlaces}
 use Rattle.blocks.proofs.disk.block_of_page.Statement.{statement}
 use Rattle.blocks.proofs.disk.block_of_page.Tie as tie
 
 abbrev Inv-loop : tie.InvT-loop
 Inv-loop page count items rest₀ j₀ rest j =
     (length items ≡ piecePlaces) × (count ≤ piecePlaces) × (j ≤ count)
-    × (getD (blocksOf (drop j (take count items))) rest 0 ≡ getD (blocksOf (take count items)) page 0)
+    × (getD (blocksOf (drop j (take count (seen items)))) rest 0 ≡ getD (blocksOf (take count (seen items))) page 0)
 
 abbrev μ-loop : tie.MeasureT-loop
 μ-loop page count items rest₀ j₀ rest j = count - j
 
 loop-holds : tie.Need-loop-holds Inv-loop μ-loop
 loop-holds c =
-    let a = c .before in
-    let e : length (a .args .e .items) ≡ piecePlaces = search (needs, length-of-mapped) in
+    let a = c .before .before in
+    let e : length (a .args .e .pieces .items) ≡ piecePlaces = search (needs, length-of-mapped) in
     (e, a .pre .count, omega arith, refl)
 
-mul-s : tie.Need-mul-s Inv-loop μ-loop
-mul-s c = search needs
+mul-piece : tie.Need-mul-piece Inv-loop μ-loop
+mul-piece c = search needs
 
-array-copy-out-s : tie.Need-array-copy-out-s Inv-loop μ-loop
-array-copy-out-s c = search needs
+array-copy-out-piece : tie.Need-array-copy-out-piece Inv-loop μ-loop
+array-copy-out-piece c = search needs
 
 length-requires : tie.Need-length-requires Inv-loop μ-loop
+unfolding listOf
 length-requires c κs =
-    let b = c .before .before .before in
-    let a = b .before .before in
-    let e = a .args .e in
-    let p = piece-fits (blockSize * greatestDisk) (e .items) (e .count) (b .loop .j) (omega (arith, b .loop .inv))
-    (c .before .before .loop-test .taken) (a .pre .pieces) in
-    p .height
+    let b = c .before .before .before .before in
+    let a = b .before .before .before in
+    let e = a .args .e .pieces in
+    let n = seen-length (e .items) in
+    let p = piece-fits (blockSize * greatestDisk) (seen (e .items)) (e .count) (b .loop .j)
+    (omega (arith, n, b .loop .inv))
+    (c .before .before .before .loop-test .taken) (a .pre .pieces) in
+    let x = c .before .section .ensures ∙ sym (seen-get (e .items) (b .loop .j)) in
+    subst (λ (z : Section). NoHigher (z .height)) (sym x) (p .height)
 
 cast-if1 : tie.Need-cast-if1 Inv-loop μ-loop
 cast-if1 c = search needs
@@ -51,23 +60,32 @@ cast-result : tie.Need-cast-result Inv-loop μ-loop
 cast-result c = search needs
 
 add-result : tie.Need-add-result Inv-loop μ-loop
+unfolding listOf
 add-result c =
-    let b = c .before .before .before .before .before .before in
-    let a = b .before .before in
-    let e = a .args .e in
-    let p = piece-fits (blockSize * greatestDisk) (e .items) (e .count) (b .loop .j) (omega (arith, b .loop .inv))
-    (c .before .before .before .before .before .loop-test .taken) (a .pre .pieces) in
-    omega (arith, p .within, c .before .before .length .ensures .equal)
+    let b = c .before .before .before .before .before .before .before in
+    let a = b .before .before .before in
+    let e = a .args .e .pieces in
+    let n = seen-length (e .items) in
+    let p = piece-fits (blockSize * greatestDisk) (seen (e .items)) (e .count) (b .loop .j)
+    (omega (arith, n, b .loop .inv))
+    (c .before .before .before .before .before .before .loop-test .taken) (a .pre .pieces) in
+    let x = c .before .before .before .before .section .ensures ∙ sym (seen-get (e .items) (b .loop .j)) in
+    omega (arith, p .within, ap (λ (z : Section). z .first) x, ap lengthOf x, c .before .before .length .ensures .equal)
 
 returns : tie.Need-returns Inv-loop μ-loop
+unfolding listOf
 returns c =
-    let b = c .before .before .before .before .before .before in
-    let a = b .before .before in
-    let e = a .args .e in
+    let b = c .before .before .before .before .before .before .before in
+    let a = b .before .before .before in
+    let e = a .args .e .pieces in
+    let n = seen-length (e .items) in
     let v = b .loop .inv in
-    let t = c .before .before .before .before .before .loop-test .taken in
+    let t = c .before .before .before .before .before .before .loop-test .taken in
     let k = c .before .before .length in
-    page-here (e .items) (e .count) (b .loop .j) (omega arith) (b .loop .rest) (k .result) t (k .ensures .equal)
+    let x = c .before .before .before .before .section .ensures ∙ sym (seen-get (e .items) (b .loop .j)) in
+    ap (λ (z : Section). z .first + b .loop .rest) x
+    ∙ page-here (seen (e .items)) (e .count) (b .loop .j) (omega arith) (b .loop .rest) (k .result) t
+    (k .ensures .equal ∙ ap lengthOf x)
     (c .before .if1 .taken)
     ∙ v .3
 
@@ -85,27 +103,35 @@ loop-less c = search needs
 
 loop-again : tie.Need-loop-again Inv-loop μ-loop
 loop-again c =
-    let b = c .before .before .before .before .before in
-    let a = b .before .before in
-    let e = a .args .e in
+    let b = c .before .before .before .before .before .before in
+    let a = b .before .before .before in
+    let e = a .args .e .pieces in
+    let n = seen-length (e .items) in
     let v = b .loop .inv in
-    let t = c .before .before .before .before .loop-test .taken in
-    let k = c .before .length in (
+    let t = c .before .before .before .before .before .loop-test .taken in
+    let k = c .before .length in
+    let x = c .before .before .before .section .ensures ∙ sym (seen-get (e .items) (b .loop .j)) in (
       v .0,
       v .1,
       omega arith,
-      page-later (e .items) (e .count) (b .loop .j) (omega arith) (b .loop .rest) (k .result) t (k .ensures .equal)
+      page-later (seen (e .items)) (e .count) (b .loop .j) (omega arith) (b .loop .rest) (k .result) t
+          (k .ensures .equal ∙ ap lengthOf x)
           (c .if1 .left)
           ∙ v .3,
     )
 
 returns-2 : tie.Need-returns-2 Inv-loop μ-loop
+unfolding listOf
 returns-2 c =
     let b = c .before in
-    let a = b .before .before in
-    let e = a .args .e in
+    let a = b .before .before .before in
+    let e = a .args .e .pieces in
+    let n = seen-length (e .items) in
     let v = b .loop .inv in
-    page-none (e .items) (e .count) (b .loop .j) (omega arith) (b .loop .rest) (c .loop-test .left) ∙ v .3
+    page-none (seen (e .items)) (e .count) (b .loop .j) (omega arith) (b .loop .rest) (c .loop-test .left) ∙ v .3
+
+section-requires : tie.Need-section-requires Inv-loop μ-loop
+section-requires c κs = search needs
 
 pub block-of-page-spec : {M : Type 1} → statement M
 block-of-page-spec =
@@ -114,8 +140,9 @@ block-of-page-spec =
     Inv-loop
     μ-loop
     loop-holds
-    mul-s
-    array-copy-out-s
+    mul-piece
+    array-copy-out-piece
+    section-requires
     length-requires
     cast-if1
     cast-result

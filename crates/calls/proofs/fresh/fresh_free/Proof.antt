@@ -48,11 +48,16 @@ rem-first c = search needs
 sub-first : tie.Need-sub-first Inv-loop μ-loop
 sub-first c = search (needs, mod-le)
 
-mul-s : tie.Need-mul-s Inv-loop μ-loop
-mul-s c = search needs
+of-requires : tie.Need-of-requires Inv-loop μ-loop
+of-requires c κs =
+    let a = c .before .before .before .before in
+    record { first = omega (arith, a .pre); height = omega (arith, c .before .before .before .loop .inv .0) }
 
-element-set-from-s : tie.Need-element-set-from-s Inv-loop μ-loop
-element-set-from-s c = search needs
+mul-t17 : tie.Need-mul-t17 Inv-loop μ-loop
+mul-t17 c = search needs
+
+element-set-from-free : tie.Need-element-set-from-free Inv-loop μ-loop
+element-set-from-free c = search needs
 
 add-free : tie.Need-add-free Inv-loop μ-loop
 add-free c = search needs
@@ -62,17 +67,17 @@ loop-less c = search needs
 
 loop-again : tie.Need-loop-again Inv-loop μ-loop
 loop-again c =
-    let b = c .before .before .before .before .args .blocks in
-    let l = c .before .before .before .loop in
-    let n = c .before .length in
-    let more = c .before .before .loop-test .taken in
+    let b = c .before .before .before .before .before .args .blocks in
+    let l = c .before .before .before .before .loop in
+    let n = c .before .before .length in
+    let more = c .before .before .before .loop-test .taken in
     let next : suc (l .h - 1) ≡ l .h = omega (arith, more) in
     let twice : 2 * n .result ≡ 2 ^ suc (l .h - 1) = omega (arith, n .ensures .equal) in (
       omega (arith, l .inv .0),
       omega (arith, l .inv .1, more),
       simp length-set (l .inv .2),
-      pieces-push b (l .h - 1) (l .free) _
-          (ap (λ (z : ℕ). b / z % 2) (sym (n .ensures .equal)) ∙ c .if1 .taken)
+      pieces-push b (l .h - 1) (l .free) _ (c .of .result) (c .of .ensures .holds)
+          (ap (λ (z : ℕ). b / z % 2) (sym (n .ensures .equal)) ∙ c .before .if1 .taken)
           (ap (λ (z : ℕ). b - b % z) twice)
           (omega (arith, l .inv .2, l .inv .1, more))
           ∙ (ap (λ z. piecesWith b z (l .free)) next ∙ l .inv .3),
@@ -119,8 +124,9 @@ fresh-free-spec =
     mul-first
     rem-first
     sub-first
-    mul-s
-    element-set-from-s
+    of-requires
+    mul-t17
+    element-set-from-free
     add-free
     loop-less
     loop-again

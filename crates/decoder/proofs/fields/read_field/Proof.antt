@@ -1,6 +1,6 @@
--- `decoder::fields::read_field` meets its contract: byte by byte the number of the field, for any width. Assumes
--- nothing.
-use mathlib.Core.Path.{_≡_, _∙_, sym, ap, subst}
+-- `decoder::fields::read_field` meets its contract: byte by byte the number of the field, for any width, and at
+-- once one of 2 bytes. Assumes nothing.
+use mathlib.Core.Path.{_≡_, _∙_, ap, subst, sym}
 use Prim.Native.Nat.{_*_, _+_, _-_, _<_, _^_, _≤_}
 use native.Mathlib.Omega.{arith}
 use lib.ListN.{drop, length}
@@ -8,6 +8,7 @@ use borrow.Author.Needs.{needs}
 use Rattle.catalogue.specs.Version.{widestField}
 use Rattle.catalogue.specs.Encoding.{byteValues}
 use Rattle.catalogue.specs.Reading.{readField}
+use Rattle.decoder.specs.Fields.{FieldAt}
 use Rattle.decoder.proofs.Places.{FieldLeft, field-end, field-more, field-start, three-bytes, value-more}
 use Rattle.decoder.proofs.fields.read_field.Statement.{statement}
 use Rattle.decoder.proofs.fields.read_field.Tie as tie
@@ -20,10 +21,19 @@ Inv-loop s at width value₀ i₀ value i =
 abbrev μ-loop : tie.MeasureT-loop
 μ-loop s at width value₀ i₀ value i = width - i
 
+read-short-requires : tie.Need-read-short-requires Inv-loop μ-loop
+read-short-requires c κs = search needs
+
+returns : tie.Need-returns Inv-loop μ-loop
+returns c =
+    let a = c .before .before .before .args in
+    subst (λ w. FieldAt w (a .s .now) (a .at) (c .read-short .result)) (sym (c .before .if1 .taken))
+    (c .read-short .ensures)
+
 loop-holds : tie.Need-loop-holds Inv-loop μ-loop
 loop-holds c =
-    let p = c .before .pre in
-    let a = c .before .args in
+    let p = c .before .before .pre in
+    let a = c .before .before .args in
     (omega arith, p .0, p .1, omega arith, field-start (a .width) (a .s .now) (a .at))
 
 mul-value : tie.Need-mul-value Inv-loop μ-loop
@@ -59,7 +69,7 @@ loop-less c = search needs
 loop-again : tie.Need-loop-again Inv-loop μ-loop
 loop-again c =
     let b = c .before .before .before in
-    let a = b .before .before .args in
+    let a = b .before .before .before .args in
     let v = b .loop .inv in
     let t = c .before .before .loop-test .taken in (
       omega (arith, t),
@@ -72,10 +82,10 @@ loop-again c =
           ∙ v .4),
     )
 
-returns : tie.Need-returns Inv-loop μ-loop
-returns c =
+returns-2 : tie.Need-returns-2 Inv-loop μ-loop
+returns-2 c =
     let b = c .before in
-    let a = b .before .before .args in
+    let a = b .before .before .before .args in
     let v = b .loop .inv in
     let e : b .loop .i ≡ a .width = omega (arith, v .0, c .loop-test .left) in
     record {
@@ -92,6 +102,8 @@ read-field-spec =
     (tie.spec
     Inv-loop
     μ-loop
+    read-short-requires
+    returns
     loop-holds
     mul-value
     add-wide
@@ -101,4 +113,4 @@ read-field-spec =
     add-i
     loop-less
     loop-again
-    returns)
+    returns-2)

@@ -1,4 +1,6 @@
 -- `decoder::fields::read_pairs` meets its contract: the pairs so far, before those left to read. Assumes nothing.
+use Rattle.piece.specs.Packed.{seen, sectionIn}
+use Rattle.piece.proofs.Seen.{seen-length, seen-set}
 use mathlib.Core.Bool.{true}
 use mathlib.Core.Path.{_≡_, _∙_, sym, ap, refl}
 use mathlib.Core.List.{[]}
@@ -20,26 +22,23 @@ use Rattle.decoder.proofs.fields.read_pairs.Tie as tie
 abbrev Inv-loop : tie.InvT-loop
 Inv-loop s at count width items₀ sum₀ end₀ i₀ items sum end i =
     (i ≤ count) × (count ≤ piecePlaces) × (end ≤ length s) × (length items ≡ piecePlaces)
-    × (sum ≤ greatestDisk * i) × (sum ≡ blockCount (take i items))
+    × (sum ≤ greatestDisk * i) × (sum ≡ blockCount (take i (seen items)))
     × (Left width s count end i items ≡ PairsLeft width count (drop at s)) × (width ≤ widestField)
 
 abbrev μ-loop : tie.MeasureT-loop
 μ-loop s at count width items₀ sum₀ end₀ i₀ items sum end i = count - i
 
-no-section-requires : tie.Need-no-section-requires Inv-loop μ-loop
-no-section-requires c κs = search needs
-
 loop-holds : tie.Need-loop-holds Inv-loop μ-loop
 loop-holds c =
-    let a = c .before .before .args in (
+    let a = c .before .args in (
       omega arith,
-      c .before .before .pre .1,
+      c .before .pre .1,
       omega arith,
       refl,
       omega arith,
       refl,
       left-start (a .width) (a .s .now) (a .at) (a .count) [],
-      c .before .before .pre .2,
+      c .before .pre .2,
     )
 
 read-pair-requires : tie.Need-read-pair-requires Inv-loop μ-loop
@@ -51,7 +50,7 @@ no-pairs-requires c κs = search needs
 returns : tie.Need-returns Inv-loop μ-loop
 returns c =
     let b = c .before .before .before .before .before in
-    let a = b .before .before .before .args in
+    let a = b .before .before .args in
     no-pairs-at (a .width) (a .s .now) (a .at) (a .count) _
     (sym (b .loop .inv .6)
     ∙ left-bad (a .width) (a .s .now) (a .count) (b .loop .end) (b .loop .i) (b .loop .items)
@@ -87,7 +86,7 @@ loop-less c = search needs
 loop-again : tie.Need-loop-again Inv-loop μ-loop
 loop-again c =
     let b = c .before .before .before .before .before .before in
-    let a = b .before .before .before .args in
+    let a = b .before .before .args in
     let p = c .before .before .before .before .read-pair in
     let v = b .loop .inv in
     let ok : p .result .ok ≡ true = not-false _ (c .before .before .if1 .left) in
@@ -98,8 +97,11 @@ loop-again c =
       simp length-set (v .3),
       omega (arith, p .ensures .most),
       ap (λ n. n + p .result .length) (v .5)
-          ∙ (ap (λ n. blockCount (take (b .loop .i) (b .loop .items)) + n) (p .ensures .equal)
-          ∙ sym (sum-pushed lengthOf (b .loop .items) (b .loop .i) (p .result .section) l)),
+          ∙ (ap (λ n. blockCount (take (b .loop .i) (seen (b .loop .items))) + n) (p .ensures .equal)
+          ∙ sym (ap (λ z. blockCount (take (b .loop .i + 1) z))
+          (seen-set (b .loop .items) (b .loop .i) (p .result .piece))
+          ∙ sum-pushed lengthOf (seen (b .loop .items)) (b .loop .i) (sectionIn (p .result .piece))
+          (omega (arith, seen-length (b .loop .items))))),
       left-more (a .width) (a .s .now) (a .count) (b .loop .end) (b .loop .i) (b .loop .items)
           (c .before .before .before .before .before .loop-test .taken) _
           (p .ensures) ok l
@@ -110,14 +112,14 @@ loop-again c =
 returns-2 : tie.Need-returns-2 Inv-loop μ-loop
 returns-2 c =
     let b = c .before in
-    let a = b .before .before .before .args in
+    let a = b .before .before .args in
     let v = b .loop .inv in
     let e : b .loop .i ≡ a .count = omega arith in
     some-pairs-at (a .width) (a .s .now) (a .at) (a .count) _ (b .loop .end) (b .loop .items)
     (sym (v .6)
     ∙ (ap (λ i. Left (a .width) (a .s .now) (a .count) (b .loop .end) i (b .loop .items)) e
     ∙ left-end (a .width) (a .s .now) (a .count) (b .loop .end) (b .loop .items)))
-    (v .5 ∙ ap (λ i. blockCount (take i (b .loop .items))) e) (omega (arith, v .4)) (v .1) (omega (arith, v .3))
+    (v .5 ∙ ap (λ i. blockCount (take i (seen (b .loop .items)))) e) (omega (arith, v .4)) (v .1) (omega (arith, v .3))
     (omega (arith, v .2))
 
 pub read-pairs-spec : {M : Type 1} → statement M
@@ -126,7 +128,6 @@ read-pairs-spec =
     (tie.spec
     Inv-loop
     μ-loop
-    no-section-requires
     loop-holds
     read-pair-requires
     no-pairs-requires

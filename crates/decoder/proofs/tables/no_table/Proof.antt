@@ -12,9 +12,6 @@ use Rattle.decoder.proofs.tables.no_table.Tie as tie
 no-entry-requires : tie.Need-no-entry-requires
 no-entry-requires c κs = search needs
 
-no-section-requires : tie.Need-no-section-requires
-no-section-requires c κs = search needs
-
 returns : tie.Need-returns
 unfolding filesOf freeOf
 returns c = (
@@ -22,7 +19,7 @@ returns c = (
     sized = record {
       files = omega arith;
       free = omega arith;
-      each = each-replicate mostFiles (c .before .no-entry .result) (omega (arith, c .before .no-entry .ensures .1));
+      each = each-replicate mostFiles (c .no-entry .result) (omega (arith, c .no-entry .ensures .1));
     };
     array = refl;
     files = refl;
@@ -32,4 +29,4 @@ returns c = (
 )
 
 pub no-table-spec : {M : Type 1} → statement M
-no-table-spec = tie.close (tie.spec no-entry-requires no-section-requires returns)
+no-table-spec = tie.close (tie.spec no-entry-requires returns)

@@ -1,50 +1,61 @@
 -- `encoder::storing::write_pairs` meets its contract: after `i` turns `i` pairs stand. Assumes nothing.
-use mathlib.Core.Path.{_≡_, refl}
+use Rattle.piece.specs.Packed.{seen}
+use Rattle.piece.proofs.Seen.{seen-length, seen-get}
+use Rattle.piece_lists.proofs.SeenPlaces.{each-read}
+use Rattle.section.specs.Sections.{section}
+use mathlib.Core.Path.{_≡_, refl, subst, sym, _∙_}
 use Prim.Native.Nat.{_-_, _≤_}
 use native.Mathlib.Omega.{arith}
 use lib.ListN.{length, take}
 use borrow.Author.Needs.{needs}
 use Rattle.piece_lists.proofs.Arrays.{length-of-mapped}
-use Rattle.piece_lists.proofs.EachItem.{each-taken}
 use Rattle.piece_lists.specs.Few.{listOf, piecePlaces}
+use Rattle.piece_lists.specs.Few.{listOf}
+use Rattle.pieces.specs.Pieces.{Low}
 use Rattle.catalogue.specs.Encoding.{pairBytes, pairsBytes}
-use Rattle.encoder.specs.Store.{Written}
+use Rattle.encoder.specs.Store.{Room, Written}
 use Rattle.encoder.proofs.StoreLists.{list-more, list-none, list-room}
 use Rattle.encoder.proofs.storing.write_pairs.Statement.{statement}
 use Rattle.encoder.proofs.storing.write_pairs.Tie as tie
 
 abbrev Inv-loop : tie.InvT-loop
 Inv-loop cat₀ at width l count next₀ i₀ cat next i =
-    (count ≡ l .count) × (i ≤ count) × Written cat₀ at (pairsBytes width (take i (l .items))) cat next
+    (count ≡ l .count) × (i ≤ count) × Written cat₀ at (pairsBytes width (take i (seen (l .items)))) cat next
 
 abbrev μ-loop : tie.MeasureT-loop
 μ-loop cat₀ at width l count next₀ i₀ cat next i = count - i
 
 loop-holds : tie.Need-loop-holds Inv-loop μ-loop
 unfolding pairsBytes
-loop-holds c =
-    let s = c .before .args in (
-      refl,
-      omega arith,
-      list-none (pairBytes (s .width)) (pairsBytes (s .width)) refl (λ a l. refl) (s .t4 .items) (s .cat .now) (s .at),
-    )
+loop-holds c = (
+  refl,
+  omega arith,
+  list-none (pairBytes (c .before .args .width)) (pairsBytes (c .before .args .width)) refl (λ a l. refl)
+      (seen (c .before .args .t4 .items)) (c .before .args .cat .now)
+      (c .before .args .at),
+)
 
-mul-s : tie.Need-mul-s Inv-loop μ-loop
-mul-s c = search needs
+mul-piece : tie.Need-mul-piece Inv-loop μ-loop
+mul-piece c = search needs
 
-element-copy-out-s : tie.Need-element-copy-out-s Inv-loop μ-loop
-element-copy-out-s c = search needs
+element-copy-out-piece : tie.Need-element-copy-out-piece Inv-loop μ-loop
+element-copy-out-piece c = search needs
 
 write-pair-requires : tie.Need-write-pair-requires Inv-loop μ-loop
 unfolding pairsBytes listOf
 write-pair-requires c κs =
-    let s = c .before .before .before .before .before in
-    let l = c .before .before .before .loop in
-    let n : length (s .args .t4 .items) ≡ piecePlaces = search (needs, length-of-mapped) in (
-      each-taken (s .args .t4 .items) (s .args .t4 .count) _ _ (omega arith) (s .pre .1 .0) (omega arith),
-      list-room (pairBytes (s .args .width)) (pairsBytes (s .args .width)) refl (λ a l. refl) (s .args .t4 .items) _
-          (s .args .cat .now) (l .cat) (s .args .at) (s .args .t4 .count) (l .i) (l .next) (omega arith) (omega arith)
-          (s .pre .1 .1) (l .inv .2),
+    let s = c .before .before .before .before .before .before in
+    let l = c .before .before .before .before .loop in
+    let p = s .args .t4 in
+    let w = s .args .width in
+    let n : length (p .items) ≡ piecePlaces = search (needs, length-of-mapped) in
+    let n′ = seen-length (p .items) in
+    let x = seen-get (p .items) (l .i) ∙ sym (c .before .section .ensures) in (
+      each-read {P = Low} (p .items) (p .count) (l .i) (c .before .section .result) (omega arith) (s .pre .1 .0)
+          (omega arith) (c .before .section .ensures),
+      subst (λ z. Room (l .cat) (l .next) (pairBytes w z)) x
+          (list-room (pairBytes w) (pairsBytes w) refl (λ a l. refl) (seen (p .items)) (section 0 0) (s .args .cat .now)
+          (l .cat) (s .args .at) (p .count) (l .i) (l .next) (omega arith) (omega arith) (s .pre .1 .1) (l .inv .2)),
     )
 
 add-i : tie.Need-add-i Inv-loop μ-loop
@@ -56,14 +67,19 @@ loop-less c = search needs
 loop-again : tie.Need-loop-again Inv-loop μ-loop
 unfolding pairsBytes
 loop-again c =
-    let s = c .before .before .before .before .before .before .before .before in
-    let l = c .before .before .before .before .before .before .loop in
-    let n : length (s .args .t4 .items) ≡ piecePlaces = search (needs, length-of-mapped) in (
+    let s = c .before .before .before .before .before .before .before .before .before in
+    let l = c .before .before .before .before .before .before .before .loop in
+    let p = s .args .t4 in
+    let w = s .args .width in
+    let n : length (p .items) ≡ piecePlaces = search (needs, length-of-mapped) in
+    let n′ = seen-length (p .items) in
+    let x = seen-get (p .items) (l .i) ∙ sym (c .before .before .before .before .section .ensures) in
+    let y = c .before .before .write-pair in (
       refl,
       omega arith,
-      list-more (pairBytes (s .args .width)) (pairsBytes (s .args .width)) refl (λ a l. refl) (s .args .t4 .items)
-          (record { first = 0; height = record { value = 0 } }) (s .args .cat .now) (l .cat) _ (s .args .at) (l .i)
-          (l .next) _ (omega arith) (l .inv .2) (c .before .before .write-pair .ensures),
+      list-more (pairBytes w) (pairsBytes w) refl (λ a l. refl) (seen (p .items)) (section 0 0) (s .args .cat .now)
+          (l .cat) (y .last .0) (s .args .at) (l .i) (l .next) (y .result) (omega arith) (l .inv .2)
+          (subst (λ z. Written (l .cat) (l .next) (pairBytes w z) (y .last .0) (y .result)) (sym x) (y .ensures)),
     )
 
 same-length : tie.Need-same-length Inv-loop μ-loop
@@ -77,6 +93,9 @@ returns c =
     let e : l .i ≡ s .args .t4 .count = omega arith in
     rw e at (l .inv .2)
 
+section-requires : tie.Need-section-requires Inv-loop μ-loop
+section-requires c κs = search needs
+
 pub write-pairs-spec : {M : Type 1} → statement M
 write-pairs-spec =
     tie.close
@@ -84,8 +103,9 @@ write-pairs-spec =
     Inv-loop
     μ-loop
     loop-holds
-    mul-s
-    element-copy-out-s
+    mul-piece
+    element-copy-out-piece
+    section-requires
     write-pair-requires
     add-i
     loop-less

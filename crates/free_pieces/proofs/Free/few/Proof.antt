@@ -7,6 +7,8 @@ use lib.Seq.{length-take-le}
 use borrow.Author.Needs.{needs}
 use Rattle.piece_lists.specs.Few.{listOf, piecePlaces}
 use Rattle.free_pieces.specs.Free.{freeOf, freePlaces}
+use Rattle.piece.specs.Packed.{seen}
+use Rattle.piece.proofs.Seen.{seen-length, seen-same}
 use Rattle.piece_lists.proofs.Arrays.{copied-more, length-of-mapped}
 use Rattle.free_pieces.proofs.Free.few.Statement.{statement}
 use Rattle.free_pieces.proofs.Free.few.Tie as tie
@@ -61,8 +63,8 @@ returns c =
     let e : l .j ≡ p .count = omega arith in
     record {
       count = refl;
-      list = rw e at (v .5);
-      exact = length-take-le (p .count) (p .items) (omega (arith, v .0, v .1, v .2));
+      list = seen-same (p .count) (l .items) (p .items) (rw e at (v .5));
+      exact = length-take-le (p .count) (seen (p .items)) (omega (arith, seen-length (p .items), v .0, v .1, v .2));
       few = c .before .before .pre;
     }
 

@@ -3,7 +3,7 @@
 -- `h`: after `j` turns those among the first `j`. Assumes nothing.
 use mathlib.Core.Bool.{false}
 use mathlib.Core.Logic.{inl, inr}
-use mathlib.Core.Path.{_∙_, _≡_, ap, refl}
+use mathlib.Core.Path.{_∙_, _≡_, ap, refl, sym}
 use Prim.Native.Nat.{_+_, _-_, _≤_, ℕ}
 use native.Mathlib.Omega.{arith}
 use lib.ListN.{length, take}
@@ -12,6 +12,8 @@ use borrow.Author.Needs.{needs}
 use Rattle.section.specs.Limits.{heightCount}
 use Rattle.layout.proofs.Splitting.{countOf}
 use Rattle.section.specs.Sections.{section}
+use Rattle.piece.specs.Packed.{seen}
+use Rattle.piece.proofs.Seen.{seen-get, seen-length}
 use Rattle.piece_lists.proofs.Arrays.{length-of-mapped}
 use Rattle.free_pieces.proofs.Draws.{pair-end, pair-here, pair-on}
 use Rattle.free_pieces.proofs.Fewer.{count-other, count-same, few-pair}
@@ -22,7 +24,7 @@ use Rattle.free_pieces.proofs.Free.lowest_pair.Tie as tie
 abbrev Inv-pieces : tie.InvT-pieces
 Inv-pieces self s m h n₀ j₀ n j =
     (length (self .items) ≡ freePlaces) × (m ≡ self .count) × (m ≤ freePlaces) × (j ≤ m) × (n ≤ j)
-    × (n ≡ countOf h (take j (self .items)))
+    × (n ≡ countOf h (take j (seen (self .items))))
 
 abbrev μ-pieces : tie.MeasureT-pieces
 μ-pieces self s m h n₀ j₀ n j = m - j
@@ -49,6 +51,9 @@ mul-piece c = search needs
 element-copy-out-piece : tie.Need-element-copy-out-piece Inv-pieces μ-pieces Inv-heights μ-heights
 element-copy-out-piece c = search needs
 
+height-requires : tie.Need-height-requires Inv-pieces μ-pieces Inv-heights μ-heights
+height-requires c κs = search needs
+
 add-n : tie.Need-add-n Inv-pieces μ-pieces Inv-heights μ-heights
 add-n c = search needs
 
@@ -60,19 +65,22 @@ pieces-less c = search needs
 
 pieces-again : tie.Need-pieces-again Inv-pieces μ-pieces Inv-heights μ-heights
 pieces-again c =
-    let items = c .before .before .before .before .before .before .before .before .args .t1 .items in
-    let h = c .before .before .before .before .before .before .before .heights .h in
-    let l = c .before .before .before .before .before .pieces in
+    let words = c .before .before .before .before .before .before .before .args .t1 .items in
+    let items = seen words in
+    let n = seen-length words in
+    let h = c .before .before .before .before .before .before .heights .h in
+    let l = c .before .before .before .before .pieces in
     let v = l .inv in
+    let y = ap (λ z. z .height .value) (seen-get words (l .j)) ∙ sym (c .before .height .ensures) in
     let next = elim (c .if1 .came)
     as (λ _. (c .if1 .n ≤ l .j + 1) × (c .if1 .n ≡ countOf h (take (l .j + 1) items))) [
       | inl x ↦ (
         omega (arith, x .1, v .4),
-        x .1 ∙ count-same h items (l .j) (section 0 0) (omega arith) (l .n) (v .5) (x .0 .taken),
+        x .1 ∙ count-same h items (l .j) (section 0 0) (omega arith) (l .n) (v .5) (y ∙ x .0 .taken),
       )
       | inr x ↦ (
         omega (arith, x .1, v .4),
-        x .1 ∙ count-other h items (l .j) (section 0 0) (omega arith) (l .n) (v .5) (x .0 .left),
+        x .1 ∙ count-other h items (l .j) (section 0 0) (omega arith) (l .n) (v .5) (λ z. x .0 .left (sym y ∙ z)),
       )
     ] in
     (v .0, refl, v .2, omega arith, next .0, next .1)
@@ -110,9 +118,9 @@ heights-again c =
     let k = c .before .before .pieces in
     let s = section 0 0 in
     let all : k .j ≡ self .count = omega (arith, k .inv .3, c .before .pieces-test .left) in
-    let count : k .n ≡ countOf h free = k .inv .5 ∙ ap (λ i. countOf h (take i (self .items))) all in
-    let next = elim (c .if2 .came) as (λ _. lowestPair (heightCount - (h + 1)) (h + 1) free ≡ lowestPair
-    (heightCount - h) h free) [
+    let count : k .n ≡ countOf h free = k .inv .5 ∙ ap (λ i. countOf h (take i (seen (self .items)))) all in
+    let next = elim (c .if2 .came) as
+    (λ _. lowestPair (heightCount - (h + 1)) (h + 1) free ≡ lowestPair (heightCount - h) h free) [
       | inl x ↦ pair-on (heightCount - (h + 1)) h free (x .1 .result) (x .1 .ensures .meaning) (heightCount - h)
           (h + 1) (omega arith)
           (omega arith) (x .2 .left)
@@ -129,7 +137,8 @@ returns-2 c =
     let l = c .before .heights in
     record {
       meaning = pair-end (heightCount - l .h) (l .h) (freeOf self) (omega arith) ∙ l .inv .3;
-      exact = length-take-le (self .count) (self .items) (omega (arith, l .inv .0, c .before .before .pre));
+      exact = length-take-le (self .count) (seen (self .items))
+          (omega (arith, seen-length (self .items), l .inv .0, c .before .before .pre));
       less = λ x. let z : _≡_ {A = ℕ} 0 1 = cc in absurd (omega arith);
     }
 
@@ -145,6 +154,7 @@ lowest-pair-spec =
     pieces-holds
     mul-piece
     element-copy-out-piece
+    height-requires
     add-n
     add-j
     pieces-less

@@ -3,7 +3,7 @@
 -- quotient by the height's length is odd. Assumes nothing.
 use mathlib.Core.Bool.{false, true}
 use mathlib.Core.Path.{_∙_, _≡_, ap, refl, sym}
-use Prim.Native.Nat.{_%_, _+_, _-_, _/_, _<_, _≤_, ℕ}
+use Prim.Native.Nat.{_%_, _+_, _-_, _/_, _≤_, ℕ}
 use native.Mathlib.Omega.{arith}
 use lib.ListN.{length, length-set, set}
 use borrow.Author.Needs.{needs}
@@ -14,23 +14,29 @@ use Rattle.free_pieces.proofs.PiecesLaid.{onward, onward-end, onward-fa
 use Rattle.free_pieces.proofs.PiecesLaid.{onward-take, stocked-with}
 use Rattle.piece_lists.specs.Few.{piecePlaces}
 use Rattle.free_pieces.specs.Taking.{Stocked}
+use Rattle.free_pieces.specs.declared.Free.{Free}
 use Rattle.free_pieces.specs.declared.Laid.{Laid}
+use Rattle.piece_lists.specs.declared.Pieces.{Pieces}
 use Rattle.free_pieces.proofs.allocating.allocate.Statement.{statement}
 use Rattle.free_pieces.proofs.allocating.allocate.Tie as tie
 
+-- the pieces laid so far and the free ones that are left
+abbrev soFar : Pieces → Free → Laid
+soFar list left = record { ok = true; pieces = list; free = left }
+
 abbrev Inv-loop : tie.InvT-loop
-Inv-loop n laid₀ h₀ laid h =
-    (h ≤ heightCount) × (laid .count + h ≤ piecePlaces) × Stocked (laid .free) × (laid .ok ≡ true)
-    × (length (laid .items) ≡ piecePlaces) × (onward n h laid ≡ onward n heightCount laid₀)
+Inv-loop n list₀ left₀ h₀ list left h =
+    (h ≤ heightCount) × (list .count + h ≤ piecePlaces) × Stocked left × (length (list .items) ≡ piecePlaces)
+    × (onward n h (soFar list left) ≡ onward n heightCount (soFar list₀ left₀))
 
 abbrev μ-loop : tie.MeasureT-loop
-μ-loop n laid₀ h₀ laid h = h
+μ-loop n list₀ left₀ h₀ list left h = h
 
 add-h : tie.Need-add-h Inv-loop μ-loop
 add-h c = search needs
 
 loop-holds : tie.Need-loop-holds Inv-loop μ-loop
-loop-holds c = (omega arith, omega arith, c .pre, refl, refl, refl)
+loop-holds c = (omega arith, omega arith, c .pre, refl, refl)
 
 sub-h : tie.Need-sub-h Inv-loop μ-loop
 sub-h c = search needs
@@ -43,31 +49,29 @@ div-if1 c = search needs
 
 take-piece-requires : tie.Need-take-piece-requires Inv-loop μ-loop
 take-piece-requires c κs =
-    let v = c .before .before .before .before .loop .inv in
-    (omega (arith, v .0, c .before .before .before .loop-test .taken), v .2)
+    let v = c .before .before .before .loop .inv in
+    (omega (arith, v .0, c .before .before .loop-test .taken), v .2)
 
 returns : tie.Need-returns Inv-loop μ-loop
 returns c =
-    let a = c .before .before .before .before .before .before .before .before in
-    let l = c .before .before .before .before .before .before .before .loop in
+    let t = c .before .before .before .before .before .loop-test .taken in
+    let l = c .before .before .before .before .before .before .loop in
+    let a = c .before .before .before .before .before .before .before .args in
     let v = l .inv in
     let d = c .before .before .take-piece in
     let h = l .h - 1 in
-    let e : h + 1 ≡ l .h = omega (arith, c .before .before .before .before .before .before .loop-test .taken) in
-    let low : h ≤ greatestHeight = omega (arith, v .0, c .before .before .before .before .before .before .loop-test .taken) in
-    let digit = ap (λ (z : ℕ). a .args .n / z % 2) (sym (c .before .before .before .before .before .length .ensures .equal)) ∙ c .before .before .before .before .if1 .taken in
-    let r : Laid = record {
-      ok = false;
-      count = l .laid .count;
-      items = l .laid .items;
-      free = l .laid .free;
-    } in
-    let x = laid-failed (l .laid) (d .result) (not-true _ (c .if2 .taken)) in
+    let e : h + 1 ≡ l .h = omega (arith, t) in
+    let low : h ≤ greatestHeight = omega (arith, v .0, t) in
+    let digit = ap (λ (z : ℕ). a .n / z % 2) (sym (c .before .before .before .before .length .ensures .equal))
+    ∙ c .before .before .before .if1 .taken in
+    let p = soFar (l .list) (l .left) in
+    let r : Laid = record { ok = false; pieces = l .list; free = l .left } in
+    let x = laid-failed p (d .result) (not-true _ (c .if2 .taken)) in
     record {
       meaning =
-          onward-failed (a .args .n) h r refl
-          ∙ (onward-take (a .args .n) h (l .laid) r (d .result) low (v .3) digit (d .ensures .meaning) x
-          ∙ (ap (λ z. onward (a .args .n) z (l .laid)) e ∙ (v .5 ∙ onward-start (a .args .n) (a .args .free))));
+          onward-failed (a .n) h r refl
+          ∙ (onward-take (a .n) h p r (d .result) low refl digit (d .ensures .meaning) x
+          ∙ (ap (λ z. onward (a .n) z p) e ∙ (v .4 ∙ onward-start (a .n) (a .free))));
       count = omega (arith, v .1);
       stocked = v .2;
     }
@@ -78,38 +82,38 @@ mul-piece c = search needs
 element-set-from-piece : tie.Need-element-set-from-piece Inv-loop μ-loop
 element-set-from-piece c = search needs
 
-add-laid : tie.Need-add-laid Inv-loop μ-loop
-add-laid c = search needs
+add-list : tie.Need-add-list Inv-loop μ-loop
+add-list c = search needs
 
 loop-less : tie.Need-loop-less Inv-loop μ-loop
 loop-less c = search needs
 
 loop-again : tie.Need-loop-again Inv-loop μ-loop
 loop-again c =
-    let n = c .before .before .before .before .before .before .before .before .before .before .args .n in
-    let l = c .before .before .before .before .before .before .before .before .before .loop in
+    let t = c .before .before .before .before .before .before .before .loop-test .taken in
+    let l = c .before .before .before .before .before .before .before .before .loop in
+    let n = c .before .before .before .before .before .before .before .before .before .args .n in
     let v = l .inv in
     let d = c .before .before .before .before .take-piece in
     let h = l .h - 1 in
-    let e : h + 1 ≡ l .h = omega (arith, c .before .before .before .before .before .before .before .before .loop-test .taken) in
-    let low : h ≤ greatestHeight = omega (arith, v .0, c .before .before .before .before .before .before .before .before .loop-test .taken) in
-    let digit = ap (λ (z : ℕ). n / z % 2) (sym (c .before .before .before .before .before .before .before .length .ensures .equal)) ∙ c .before .before .before .before .before .before .if1 .taken in
+    let e : h + 1 ≡ l .h = omega (arith, t) in
+    let low : h ≤ greatestHeight = omega (arith, v .0, t) in
+    let digit = ap (λ (z : ℕ). n / z % 2)
+    (sym (c .before .before .before .before .before .before .length .ensures .equal))
+    ∙ c .before .before .before .before .before .if1 .taken in
     let found : d .result .found ≡ true = not-false _ (c .before .before .if2 .left) in
-    let r : Laid = record {
-      ok = l .laid .ok;
-      count = l .laid .count + 1;
-      items = set (l .laid .items) (l .laid .count) (d .result .section);
-      free = d .result .rest;
+    let p = soFar (l .list) (l .left) in
+    let more : Pieces = record {
+      count = l .list .count + 1;
+      items = set (l .list .items) (l .list .count) (d .result .piece);
     } in
-    let room : l .laid .count < length (l .laid .items) = omega (arith, v .1, v .4, c .before .before .before .before .before .before .before .before .loop-test .taken) in
-    let x = laid-more (l .laid) (d .result) (v .3) found room in (
+    let r = soFar more (d .result .rest) in
+    let x = laid-more p (d .result) refl found (omega (arith, v .1, v .3, t)) in (
       omega arith,
-      omega (arith, v .1, c .before .before .before .before .before .before .before .before .loop-test .taken),
-      stocked-with h (l .laid) r (d .result) (v .2) (d .ensures) x,
-      v .3,
-      length-set (l .laid .items) (l .laid .count) (d .result .section) ∙ v .4,
-      onward-take n h (l .laid) r (d .result) low (v .3) digit (d .ensures .meaning) x
-          ∙ (ap (λ z. onward n z (l .laid)) e ∙ v .5),
+      omega (arith, v .1, t),
+      stocked-with h p r (d .result) (v .2) (d .ensures) x,
+      length-set (l .list .items) (l .list .count) (d .result .piece) ∙ v .3,
+      onward-take n h p r (d .result) low refl digit (d .ensures .meaning) x ∙ (ap (λ z. onward n z p) e ∙ v .4),
     )
 
 loop-less-2 : tie.Need-loop-less-2 Inv-loop μ-loop
@@ -121,6 +125,7 @@ loop-again-2 c =
     let n = c .before .before .before .before .args .n in
     let h = l .h in
     let v = l .inv in
+    let p = soFar (l .list) (l .left) in
     let e : h - 1 + 1 ≡ h = omega (arith, c .before .before .loop-test .taken) in
     let even : n / (c .before .length .result) % 2 ≡ 0 = omega (arith, c .if1 .left) in
     let digit = ap (λ (z : ℕ). n / z % 2) (sym (c .before .length .ensures .equal)) ∙ even in (
@@ -128,19 +133,19 @@ loop-again-2 c =
       omega (arith, v .1),
       v .2,
       v .3,
-      v .4,
-      onward-skip n (h - 1) (l .laid) (omega (arith, v .0, c .before .before .loop-test .taken)) (v .3) digit
-          ∙ (ap (λ z. onward n z (l .laid)) e ∙ v .5),
+      onward-skip n (h - 1) p (omega (arith, v .0, c .before .before .loop-test .taken)) refl digit
+          ∙ (ap (λ z. onward n z p) e ∙ v .4),
     )
 
 returns-2 : tie.Need-returns-2 Inv-loop μ-loop
 returns-2 c =
-    let v = c .before .loop .inv in
-    let e : c .before .loop .h ≡ 0 = omega (arith, c .loop-test .left) in
+    let a = c .before .before .args in
+    let l = c .before .loop in
+    let v = l .inv in
     record {
       meaning =
-          onward-end (c .before .before .args .n) (c .before .loop .h) (c .before .loop .laid) e
-          ∙ (v .5 ∙ onward-start (c .before .before .args .n) (c .before .before .args .free));
+          onward-end (a .n) (l .h) (soFar (l .list) (l .left)) (omega (arith, c .loop-test .left))
+          ∙ (v .4 ∙ onward-start (a .n) (a .free));
       count = omega arith;
       stocked = v .2;
     }
@@ -160,7 +165,7 @@ allocate-spec =
     returns
     mul-piece
     element-set-from-piece
-    add-laid
+    add-list
     loop-less
     loop-again
     loop-less-2

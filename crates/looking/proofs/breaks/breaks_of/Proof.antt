@@ -10,8 +10,8 @@ use Rattle.looking.proofs.breaks.breaks_of.Tie as tie
 
 sub-result : tie.Need-sub-result
 sub-result c =
-    let a = c .before in
-    let n : length (a .args .e .items) ≡ piecePlaces = search (needs, length-of-mapped) in
+    let a = c .before .before in
+    let n : length (a .args .e .pieces .items) ≡ piecePlaces = search (needs, length-of-mapped) in
     some-piece (a .args .e) (a .pre .0) (a .pre .1) n
 
 cast-result : tie.Need-cast-result
@@ -19,8 +19,8 @@ cast-result c = search needs
 
 returns : tie.Need-returns
 returns c =
-    let a = c .before in
-    let n : length (a .args .e .items) ≡ piecePlaces = search (needs, length-of-mapped) in
+    let a = c .before .before in
+    let n : length (a .args .e .pieces .items) ≡ piecePlaces = search (needs, length-of-mapped) in
     breaks-count (a .args .e) (a .pre .0) (a .pre .1) n
 
 pub breaks-of-spec : {M : Type 1} → statement M

@@ -9,6 +9,7 @@
 
 mod calls;
 mod disk;
+mod gathered;
 mod loading;
 mod pieces;
 mod section;

@@ -1,12 +1,10 @@
 //! A table read from the bytes of a catalogue, if they are sound.
 
+use crate::gathered::Gathered;
 use crate::pieces::Pieces;
 use crate::section::Section;
 use crate::table::{Entry, Table};
 use crate::{Version, MOST_FILES, MOST_OF_ONE};
-
-/// The most pieces of a table: those of each file and of the free blocks.
-const MOST_PIECES: usize = MOST_OF_ONE * (MOST_FILES + 1);
 
 /// The bytes that are left, of which fields are read from the front, and the bytes of a number of blocks.
 struct Fields<'a> {
@@ -84,45 +82,13 @@ pub fn load(cat: &[u8], version: Version) -> Option<Table> {
     is_sound.then_some(table)
 }
 
+/// Whether all bytes are zero. None of them ends the loop, so that the compiler can look at many at once.
 fn is_zero(bytes: &[u8]) -> bool {
-    bytes.iter().all(|&byte| byte == 0)
+    bytes.iter().fold(0, |all, byte| all | byte) == 0
 }
 
 /// Whether ids rise, the free pieces are in order, all pieces are on the disk, and no two share a block.
 fn is_sound(table: &Table) -> bool {
-    let files = table.files();
-    if !files.windows(2).all(|two| two[0].id < two[1].id) || !table.free.in_order() {
-        return false;
-    }
-    let mut places = [Section::default(); MOST_PIECES];
-    let pieces = gather(table, &mut places);
-    pieces.iter().all(|piece| piece.is_on_disk(table.blocks)) && !any_shared(pieces)
-}
-
-/// All pieces in one list: each file's, then the free ones.
-fn gather<'a>(table: &Table, places: &'a mut [Section; MOST_PIECES]) -> &'a [Section] {
-    let mut count = 0;
-    let lists = table.files().iter().map(|entry| entry.pieces.all()).chain([table.free.all()]);
-    for list in lists {
-        places[count..count + list.len()].copy_from_slice(list);
-        count += list.len();
-    }
-    &places[..count]
-}
-
-/// Whether some two pieces, all aligned, share a block: their first blocks differ only below the bit of the longer
-/// one's length. It ends at the first two that do.
-fn any_shared(pieces: &[Section]) -> bool {
-    let mut masks = [0; MOST_PIECES];
-    for (mask, piece) in masks.iter_mut().zip(pieces) {
-        *mask = piece.length() - 1;
-    }
-    for (i, a) in pieces.iter().enumerate() {
-        for (b, mask) in pieces[i + 1..].iter().zip(&masks[i + 1..]) {
-            if a.first ^ b.first <= masks[i] | mask {
-                return true;
-            }
-        }
-    }
-    false
+    let ids_rise = table.files().windows(2).all(|two| two[0].id < two[1].id);
+    ids_rise && table.free.in_order() && Gathered::of(table).is_some_and(|all| !all.any_shared())
 }

@@ -1,5 +1,6 @@
 //! All sides answer alike, so that the same work is timed.
 
+use crate::builds::Build;
 use crate::scene::Scene;
 use crate::sides::{make, Call, Side};
 use twin::BLOCK;
@@ -17,11 +18,11 @@ struct Outcome {
 }
 
 /// Makes each call once on every side, all from the same bytes, and compares answers, catalogues, outputs and disks.
-pub fn sides_agree(scene: &mut Scene) {
+pub fn sides_agree(scene: &mut Scene, builds: &[&'static Build]) {
     let before = scene.disk.clone();
     for call in Call::ALL {
         let proved = outcome(scene, Side::Proved, call, &before);
-        for side in [Side::Twin, Side::Model] {
+        for side in [Side::Twin, Side::Model].into_iter().chain(builds.iter().map(|build| Side::Beside(build))) {
             let same = outcome(scene, side, call, &before) == proved;
             assert!(same, "{} differs from the proved {}", side.name(), call.name());
         }

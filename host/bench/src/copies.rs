@@ -1,8 +1,9 @@
 //! Block copies: a removal that copies as many blocks as it may, beside copies of the same blocks and nothing else.
 
+use crate::builds::Build;
 use crate::sides::{make, Call, Lent, Side};
 use crate::spread::Spread;
-use crate::timing::interleaved;
+use crate::timing::{interleaved, Beside};
 use std::hint::black_box;
 use std::time::Instant;
 use twin::{Version, BLOCK};
@@ -10,7 +11,7 @@ use twin::{Version, BLOCK};
 /// A page of memory, in bytes.
 const PAGE: usize = 4096;
 /// The version of the catalogues.
-const VERSION: Version = Version::SMALL;
+pub const VERSION: Version = Version::SMALL;
 
 /// Bytes that start a given number of bytes past a page of memory: how fast a copy is depends on that.
 struct Placed {
@@ -104,16 +105,20 @@ pub struct Copies {
     /// The proved removal's copies over the copies alone, and over the twin's.
     pub to_alone: Spread,
     pub to_twin: Spread,
+    /// The removals of the builds that have the version.
+    pub besides: Vec<Beside>,
 }
 
 /// Times the removals and the copies by turns, on a disk of 2^(top + 2) blocks that starts so many bytes past a page.
-pub fn time_copies(top: u32, past: usize, rounds: usize) -> Copies {
+pub fn time_copies(top: u32, past: usize, builds: &[&'static Build], rounds: usize) -> Copies {
     let (mut copying, mut none) = (Chain::new(top, true, past), Chain::new(top, false, past));
-    let sides = [Side::Proved, Side::Twin, Side::Model];
+    // the copies alone have no side
+    let mut sides = vec![Some(Side::Proved), Some(Side::Twin), Some(Side::Model), None];
+    sides.extend(builds.iter().map(|build| Some(Side::Beside(build))));
     let copied = copying.copies.len();
-    let times = interleaved(4, rounds, |which| {
-        let time = match sides.get(which) {
-            Some(&side) => copying.time_removal(side) - none.time_removal(side),
+    let times = interleaved(sides.len(), rounds, |which| {
+        let time = match sides[which] {
+            Some(side) => copying.time_removal(side) - none.time_removal(side),
             None => copying.time_copies(),
         };
         time / copied as f64
@@ -126,6 +131,7 @@ pub fn time_copies(top: u32, past: usize, rounds: usize) -> Copies {
         alone: Spread::of(times[3].clone()),
         to_alone: Spread::of_ratios(&times[0], &times[3]),
         to_twin: Spread::of_ratios(&times[0], &times[1]),
+        besides: Beside::of(builds, &times[4..], &times[0]),
     }
 }
 

@@ -1,10 +1,14 @@
 //! Times the proved event disk manager beside a plain twin and beside the second implementation, as ratios.
 
-#![forbid(unsafe_code)]
+#![deny(unsafe_code)]
 
 mod agreement;
 mod arguments;
+mod builds;
 mod copies;
+#[allow(unsafe_code)]
+mod library;
+mod markdown;
 mod numbers;
 mod plot;
 mod report;
@@ -15,6 +19,7 @@ mod spread;
 mod timing;
 
 use arguments::Task;
+use builds::Build;
 use report::Measured;
 use scene::Scene;
 use shape::Shape;
@@ -22,22 +27,26 @@ use sides::{Call, Side};
 use std::path::Path;
 use std::process::ExitCode;
 
-/// Times every call on every disk, one disk after another, and the block copies.
-fn measure(rounds: usize) -> Measured {
+/// Times every call on every disk, one disk after another, and the block copies. A build takes part where it has the
+/// version.
+fn measure(builds: Vec<&'static Build>, rounds: usize) -> Measured {
+    let that_serve = |version| builds.iter().copied().filter(|build| build.serves(version)).collect::<Vec<_>>();
     let (mut scenes, mut rows) = (Vec::new(), Vec::new());
     for shape in Shape::ALL {
         eprintln!("using the disk {} ..", shape.name);
         let mut scene = Scene::used(shape);
-        agreement::sides_agree(&mut scene);
+        let there = that_serve(shape.version);
+        agreement::sides_agree(&mut scene, &there);
         for call in Call::ALL {
             eprintln!("timing {} on {} ..", call.name(), shape.name);
-            rows.push(timing::time_call(&mut scene, scenes.len(), call, rounds));
+            rows.push(timing::time_call(&mut scene, scenes.len(), call, &there, rounds));
         }
         scenes.push(scene.facts);
     }
     let places = [(7, 0), (7, 16), (10, 0), (10, 16)];
-    let copies = places.map(|(top, past)| copies::time_copies(top, past, rounds)).into();
-    Measured { rounds, scenes, rows, copies }
+    let there = that_serve(copies::VERSION);
+    let copies = places.map(|(top, past)| copies::time_copies(top, past, &there, rounds)).into();
+    Measured { rounds, builds, scenes, rows, copies }
 }
 
 /// Writes the tables and the plot to the documents. It is to be run where the folder `docs` is.
@@ -67,8 +76,9 @@ fn run() -> Result<(), String> {
     match arguments::parse(std::env::args().skip(1))? {
         Task::Help => print!("{}", arguments::HELP),
         Task::Profile { side, call, disk, calls } => profile(side, call, &disk, calls)?,
-        Task::Measure { rounds, write: to_documents } => {
-            let measured = measure(rounds);
+        Task::Measure { rounds, write: to_documents, beside } => {
+            let builds = beside.into_iter().map(Build::load).collect::<Result<_, _>>()?;
+            let measured = measure(builds, rounds);
             let tables = report::text(&measured);
             print!("{tables}");
             if to_documents {

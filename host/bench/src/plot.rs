@@ -1,6 +1,7 @@
 //! A plot of the ratios: a bar from 1 to the left is faster, one to the right slower. The scale is by doublings.
 
-use crate::report::{digits, disk_text, Measured};
+use crate::markdown::digits;
+use crate::report::{disk_text, Measured};
 use crate::scene::Facts;
 use crate::spread::Spread;
 use crate::timing::Row;

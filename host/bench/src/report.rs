@@ -1,59 +1,21 @@
-//! The tables, in Markdown that is also plain to read.
+//! The tables of all that was measured.
 
-use crate::copies::Copies;
+use crate::builds::Build;
+use crate::copies::{self, Copies};
+use crate::markdown::{ratio, table, tenths, thousands};
 use crate::scene::Facts;
 use crate::shape::Shape;
-use crate::spread::Spread;
-use crate::timing::{self, Row};
+use crate::timing::{self, Beside, Row};
+use twin::Version;
 
 /// All that was measured.
 pub struct Measured {
     pub rounds: usize,
+    /// The builds beside, wherever they take part.
+    pub builds: Vec<&'static Build>,
     pub scenes: Vec<Facts>,
     pub rows: Vec<Row>,
     pub copies: Vec<Copies>,
-}
-
-/// A ratio with two digits after the point, or as many more as a small one needs to be told from 0.
-pub fn digits(ratio: f64) -> String {
-    let places = if (1e-9..0.01).contains(&ratio) { (-ratio.log10()).ceil() as usize } else { 2 };
-    format!("{ratio:.places$}")
-}
-
-/// A median with its quartiles.
-fn ratio(spread: Spread) -> String {
-    let [median, low, high] = [spread.median, spread.low, spread.high].map(digits);
-    format!("{median} ({low} to {high})")
-}
-
-/// A number with commas between its thousands.
-fn thousands(number: f64) -> String {
-    let digits = format!("{number:.0}");
-    let mut text = String::new();
-    for (i, digit) in digits.chars().enumerate() {
-        if i > 0 && (digits.len() - i).is_multiple_of(3) {
-            text.push(',');
-        }
-        text.push(digit);
-    }
-    text
-}
-
-/// A Markdown table whose columns are as wide as their longest cell. The first column stands left, the others right.
-fn table(header: &[&str], rows: &[Vec<String>]) -> String {
-    let width = |column: usize| rows.iter().map(|row| row[column].len()).chain([header[column].len()]).max();
-    let widths: Vec<usize> = (0..header.len()).map(|column| width(column).unwrap_or(0)).collect();
-    let line = |cells: Vec<&str>| {
-        let pad = |(i, cell): (usize, &&str)| match i {
-            0 => format!("{cell:<0$}", widths[i]),
-            _ => format!("{cell:>0$}", widths[i]),
-        };
-        format!("| {} |\n", cells.iter().enumerate().map(pad).collect::<Vec<_>>().join(" | "))
-    };
-    let rule = |(i, width): (usize, &usize)| "-".repeat(*width + 1) + if i == 0 { "-" } else { ":" };
-    let rules: Vec<String> = widths.iter().enumerate().map(rule).collect();
-    let body: String = rows.iter().map(|row| line(row.iter().map(String::as_str).collect())).collect();
-    format!("{}|{}|\n{body}", line(header.to_vec()), rules.join("|"))
 }
 
 /// A disk in a few words.
@@ -73,15 +35,53 @@ fn call_row(row: &Row) -> Vec<String> {
     vec![row.call.name().into(), ratio(row.to_twin), ratio(row.to_model), ratio(row.to_itself), proved, twin, model]
 }
 
-/// The table of one disk's calls.
-fn scene_table(measured: &Measured, scene: usize) -> String {
-    let rows: Vec<_> = measured.rows.iter().filter(|row| row.scene == scene).map(call_row).collect();
-    let header = ["call", "proved / twin", "proved / second", "proved / proved", "proved ns", "twin ns", "second ns"];
-    format!("### {}\n\n{}", scene_text(&measured.scenes[scene]), table(&header, &rows))
+/// The first cells of a line, and the builds beside that have a place in it.
+type BesideLine<'a> = (Vec<String>, &'a [Beside]);
+
+/// The proved calls over those of other builds, and which builds are left out since they do not have the version. There
+/// is nothing to tell in a run without other builds.
+fn beside_part(
+    builds: &[&Build],
+    version: Version,
+    first_cells: &[&str],
+    lines: &[BesideLine],
+    nanoseconds: fn(f64) -> String,
+) -> String {
+    let there: Vec<&Build> = lines.first().map_or(vec![], |(_, besides)| besides.iter().map(|b| b.build).collect());
+    let mut text = String::new();
+    if !there.is_empty() {
+        let ratios = there.iter().map(|build| format!("proved / {}", build.name));
+        let times = there.iter().map(|build| format!("{} ns", build.name));
+        let names: Vec<String> = ratios.chain(times).collect();
+        let header: Vec<&str> = first_cells.iter().copied().chain(names.iter().map(String::as_str)).collect();
+        let row = |(cells, besides): &BesideLine| {
+            let ratios = besides.iter().map(|beside| ratio(beside.from_proved));
+            let times = besides.iter().map(|beside| nanoseconds(beside.time.median));
+            cells.iter().cloned().chain(ratios).chain(times).collect()
+        };
+        let rows: Vec<Vec<String>> = lines.iter().map(row).collect();
+        text = format!("\nBeside other builds:\n\n{}", table(&header, &rows));
+    }
+    for build in builds.iter().filter(|build| !there.contains(build)) {
+        text += &format!("\nThe build `{}` refuses version {} and is left out here.\n", build.name, version.number);
+    }
+    text
 }
 
-/// The table of block copies.
-fn copies_table(copies: &[Copies]) -> String {
+/// The tables of one disk's calls.
+fn scene_table(measured: &Measured, scene: usize) -> String {
+    let calls: Vec<&Row> = measured.rows.iter().filter(|row| row.scene == scene).collect();
+    let rows: Vec<_> = calls.iter().map(|row| call_row(row)).collect();
+    let header = ["call", "proved / twin", "proved / second", "proved / proved", "proved ns", "twin ns", "second ns"];
+    let facts = &measured.scenes[scene];
+    let lines: Vec<BesideLine> =
+        calls.iter().map(|row| (vec![row.call.name().into()], row.besides.as_slice())).collect();
+    let beside = beside_part(&measured.builds, facts.shape.version, &["call"], &lines, thousands);
+    format!("### {}\n\n{}{beside}", scene_text(facts), table(&header, &rows))
+}
+
+/// The tables of block copies.
+fn copies_table(builds: &[&Build], copies: &[Copies]) -> String {
     let header = [
         "disk",
         "past a page",
@@ -94,15 +94,22 @@ fn copies_table(copies: &[Copies]) -> String {
         "copy_within ns",
     ];
     let row = |c: &Copies| {
-        let disk = format!("C = {}", thousands(c.blocks as f64));
-        let mut cells = vec![disk, format!("{} bytes", c.past), thousands(c.copied as f64)];
+        let mut cells = copies_cells(c);
         cells.extend([ratio(c.to_alone), ratio(c.to_twin)]);
         let times = c.removals.into_iter().chain([c.alone]);
-        cells.extend(times.map(|time| format!("{:.1}", time.median)));
+        cells.extend(times.map(|time| tenths(time.median)));
         cells
     };
     let rows: Vec<_> = copies.iter().map(row).collect();
-    format!("### Block copies, for each block\n\n{}", table(&header, &rows))
+    let lines: Vec<BesideLine> = copies.iter().map(|c| (copies_cells(c), c.besides.as_slice())).collect();
+    let beside = beside_part(builds, copies::VERSION, &header[..3], &lines, tenths);
+    format!("### Block copies, for each block\n\n{}{beside}", table(&header, &rows))
+}
+
+/// The disk, where it starts, and how many blocks are copied.
+fn copies_cells(c: &Copies) -> Vec<String> {
+    let [blocks, copied] = [c.blocks, c.copied].map(|n| thousands(n as f64));
+    vec![format!("C = {blocks}"), format!("{} bytes", c.past), copied]
 }
 
 /// How far apart two series of the same code were.
@@ -132,7 +139,7 @@ fn effort(rounds: usize) -> String {
 /// All tables.
 pub fn text(measured: &Measured) -> String {
     let mut parts: Vec<String> = (0..measured.scenes.len()).map(|scene| scene_table(measured, scene)).collect();
-    parts.push(copies_table(&measured.copies));
+    parts.push(copies_table(&measured.builds, &measured.copies));
     parts.push(effort(measured.rounds) + &noise(&measured.rows));
     parts.join("\n")
 }
@@ -150,17 +157,6 @@ pub fn put_between_marks(document: &str, tables: &str) -> Option<String> {
 #[cfg(test)]
 mod tests {
     use super::*;
-
-    #[test]
-    fn small_ratios_have_more_digits() {
-        let ratios = [12.346, 0.567, 0.012, 0.00026, -0.5, 0.0];
-        assert_eq!(ratios.map(digits), ["12.35", "0.57", "0.01", "0.0003", "-0.50", "0.00"]);
-    }
-
-    #[test]
-    fn numbers_have_commas() {
-        assert_eq!(["7", "1,000", "123,456"].map(String::from), [7.0, 999.6, 123456.0].map(thousands));
-    }
 
     #[test]
     fn only_what_is_between_the_marks_changes() {

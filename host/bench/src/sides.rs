@@ -1,17 +1,21 @@
 //! What is timed: one call with its buffers, on one of the implementations.
 
+use crate::builds::{answer, Build};
 use event_disk::Refusal;
 
-/// An implementation. The proved one stands twice, so that the ratio of its two series shows the noise of the run.
+/// An implementation. The proved one stands twice, so that the ratio of its two series shows the noise of the run. Other
+/// builds of the manager are there if they are asked for.
 #[derive(Clone, Copy, Debug, PartialEq, Eq)]
 pub enum Side {
     Proved,
     Twin,
     Model,
     ProvedAgain,
+    Beside(&'static Build),
 }
 
 impl Side {
+    /// Those that are in every run.
     pub const ALL: [Side; 4] = [Side::Proved, Side::Twin, Side::Model, Side::ProvedAgain];
 
     pub fn name(self) -> &'static str {
@@ -20,6 +24,7 @@ impl Side {
             Side::Twin => "twin",
             Side::Model => "model",
             Side::ProvedAgain => "proved-again",
+            Side::Beside(build) => &build.name,
         }
     }
 }
@@ -77,6 +82,7 @@ pub fn make(side: Side, call: Call, cat: &mut [u8], lent: &mut Lent) -> Result<u
         Side::Proved | Side::ProvedAgain => on_proved(call, cat, lent).map_err(Refusal::number),
         Side::Twin => on_twin(call, cat, lent),
         Side::Model => on_model(call, cat, lent),
+        Side::Beside(build) => answer(on_build(build, call, cat, lent)),
     }
 }
 
@@ -113,5 +119,17 @@ fn on_model(call: Call, cat: &mut [u8], lent: &mut Lent) -> Result<u64, u8> {
         Call::Breaks => model::breaks(cat, lent.id),
         Call::Free => model::free(cat),
         Call::Check => model::check(cat, lent.disk),
+    }
+}
+
+fn on_build(build: &Build, call: Call, cat: &mut [u8], lent: &mut Lent) -> i64 {
+    match call {
+        Call::Format => build.calls.format(cat, lent.disk),
+        Call::Add => build.calls.add(cat, lent.disk, lent.id, lent.content),
+        Call::Remove => build.calls.remove(cat, lent.disk, lent.id),
+        Call::ReadPage | Call::ReadFile => build.calls.read(cat, lent.disk, lent.id, 0, lent.out),
+        Call::Breaks => build.calls.breaks(cat, lent.id),
+        Call::Free => build.calls.free(cat),
+        Call::Check => build.calls.check(cat, lent.disk),
     }
 }

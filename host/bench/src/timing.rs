@@ -1,5 +1,6 @@
 //! Rounds of timed batches, and what is made of their times.
 
+use crate::builds::Build;
 use crate::numbers::Numbers;
 use crate::scene::Scene;
 use crate::shape::Shape;
@@ -72,6 +73,27 @@ impl<'a> Batch<'a> {
     }
 }
 
+/// The times of another build.
+pub struct Beside {
+    pub build: &'static Build,
+    /// The nanoseconds.
+    pub time: Spread,
+    /// The proved calls over those of the build.
+    pub from_proved: Spread,
+}
+
+impl Beside {
+    /// What is made of the series of the builds, in their order, beside that of the proved calls.
+    pub fn of(builds: &[&'static Build], series: &[Vec<f64>], proved: &[f64]) -> Vec<Beside> {
+        let beside = |(&build, times): (&&'static Build, &Vec<f64>)| Beside {
+            build,
+            time: Spread::of(times.clone()),
+            from_proved: Spread::of_ratios(proved, times),
+        };
+        builds.iter().zip(series).map(beside).collect()
+    }
+}
+
 /// The times of one call on one disk.
 pub struct Row {
     pub scene: usize,
@@ -81,12 +103,15 @@ pub struct Row {
     pub to_twin: Spread,
     pub to_model: Spread,
     pub to_itself: Spread,
+    /// The builds that have the disk's version.
+    pub besides: Vec<Beside>,
 }
 
-/// Times a call on a disk, on every side by turns. The disk is the one at a place of the tables.
-pub fn time_call(scene: &mut Scene, place: usize, call: Call, rounds: usize) -> Row {
+/// Times a call on a disk, on every side and every build by turns. The disk is the one at a place of the tables.
+pub fn time_call(scene: &mut Scene, place: usize, call: Call, builds: &[&'static Build], rounds: usize) -> Row {
     let mut batch = Batch::new(scene, call);
-    let times = interleaved(Side::ALL.len(), rounds, |side| batch.time(Side::ALL[side]));
+    let sides: Vec<Side> = Side::ALL.into_iter().chain(builds.iter().map(|build| Side::Beside(build))).collect();
+    let times = interleaved(sides.len(), rounds, |side| batch.time(sides[side]));
     let [proved, twin, model, again] = [0, 1, 2, 3].map(|side| times[side].as_slice());
     Row {
         scene: place,
@@ -95,6 +120,7 @@ pub fn time_call(scene: &mut Scene, place: usize, call: Call, rounds: usize) -> 
         to_twin: Spread::of_ratios(proved, twin),
         to_model: Spread::of_ratios(proved, model),
         to_itself: Spread::of_ratios(proved, again),
+        besides: Beside::of(builds, &times[Side::ALL.len()..], proved),
     }
 }
 

@@ -75,7 +75,7 @@ module _ (items : List Section) (m j : ℕ) (hm : m ≤ length items) where
   blocks-here l = ap blocksOf (ahead items m j hm noSection l)
 
   -- the page is in the piece at hand
-  pub page-here : (k n : ℕ) → j < m → n ≡ lengthOf (getD items j noSection) → k < n
+  page-here : (k n : ℕ) → j < m → n ≡ lengthOf (getD items j noSection) → k < n
       → getD items j noSection .first + k ≡ getD (blocksOf (drop j (take m items))) k 0
   page-here k n l e h =
       let s = getD items j noSection in
@@ -86,7 +86,7 @@ module _ (items : List Section) (m j : ℕ) (hm : m ≤ length items) where
       ∙ getD-run (lengthOf s) (s .first) k h′))
 
   -- it is in a later one
-  pub page-later : (k n : ℕ) → j < m → n ≡ lengthOf (getD items j noSection) → n ≤ k
+  page-later : (k n : ℕ) → j < m → n ≡ lengthOf (getD items j noSection) → n ≤ k
       → getD (blocksOf (drop (j + 1) (take m items))) (k - n) 0 ≡ getD (blocksOf (drop j (take m items))) k 0
   page-later k n l e h =
       let s = getD items j noSection in
@@ -95,9 +95,33 @@ module _ (items : List Section) (m j : ℕ) (hm : m ≤ length items) where
       (length-blockRun (lengthOf s) (s .first) ∙ sym e) h)
 
   -- it is in none
-  pub page-none : (k : ℕ) → m ≤ j → 0 ≡ getD (blocksOf (drop j (take m items))) k 0
+  page-none : (k : ℕ) → m ≤ j → 0 ≡ getD (blocksOf (drop j (take m items))) k 0
   unfolding blocksOf
   page-none k l = sym (ap (λ z. getD (blocksOf z) k 0) (behind items m j hm l))
+
+-- past the first j pieces `rest` pages are left before page `page`
+module _ (items : List Section) (m j rest page : ℕ) (hm : m ≤ length items)
+    (v : (k : ℕ) → getD (blocksOf (drop j (take m items))) (rest + k) 0 ≡ getD (blocksOf (take m items)) (page + k) 0)
+  where
+    module _ (lt : j < m) (n : ℕ) (e : n ≡ lengthOf (getD items j noSection)) where
+      -- the blocks of the piece at hand from that page on hold the pages from it on
+      pub run-here : rest < n → (i : ℕ) → i < n - rest
+          → getD items j noSection .first + rest + i ≡ getD (blocksOf (take m items)) (page + i) 0
+      run-here h i q =
+          let x : getD items j noSection .first + rest + i ≡ getD items j noSection .first + (rest + i) = omega arith in
+          x ∙ (page-here items m j hm (rest + i) n lt e (omega arith) ∙ v i)
+
+      pub run-later : n ≤ rest → (k : ℕ)
+          → getD (blocksOf (drop (j + 1) (take m items))) (rest - n + k) 0 ≡ getD (blocksOf (take m items)) (page + k) 0
+      run-later h k =
+          let x : rest - n + k ≡ rest + k - n = omega arith in
+          ap (λ z. getD (blocksOf (drop (j + 1) (take m items))) z 0) x
+          ∙ (page-later items m j hm (rest + k) n lt e (omega arith) ∙ v k)
+
+    pub run-none : m ≤ j → 0 ≡ getD (blocksOf (take m items)) page 0
+    run-none l =
+        let y : page + 0 ≡ page = omega arith in
+        page-none items m j hm (rest + 0) l ∙ (v 0 ∙ ap (λ z. getD (blocksOf (take m items)) z 0) y)
 
 run-on-disk : (d n a : ℕ) → HasRun d a n → Each (HasBlock d) (blockRun a n)
 unfolding blockRun

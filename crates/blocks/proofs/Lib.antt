@@ -4,4 +4,5 @@ pub mod DiskCopies
 pub mod DiskPieces
 pub mod DiskWriting
 pub mod DiskReading
+pub mod RunSteps
 pub mod DiskFits

@@ -1,16 +1,16 @@
-// Blocks and pages: copies within the disk, pages written to the blocks of pieces, pages read from them.
+// Blocks and pages: copies within the disk, and pages written to the blocks of pieces.
 //
 // Every function works on the caller's bytes in place. Blocks and pages are moved byte by byte, in a loop over a fixed
 // number of bytes.
 ghost use mathlib.Core.Path.{_≡_};
 ghost use Prim.Native.Nat.{_*_, _≤_};
-ghost use lib.ListN.{length, take, drop, getD};
+ghost use lib.ListN.{length, drop};
 ghost use Rattle.section.specs.Limits.{blockSize, greatestDisk};
 ghost use Rattle.layout.specs.Layout.{blockRun, blocksOf};
 ghost use Rattle.layout.specs.Removing.{copyRun, mergeCopies};
 ghost use Rattle.table.specs.Tables.{piecesIn};
-ghost use Rattle.manager.specs.Disk.{block, storeBlock, pagesOn, pageCount, cutPages, joinPages, writePages};
-ghost use Rattle.blocks.specs.DiskCode.{HasBlock, HasRun, MergeFits, EntryFits, WriteFits, ReadFits, Copied};
+ghost use Rattle.manager.specs.Disk.{block, storeBlock, pageCount, cutPages, writePages};
+ghost use Rattle.blocks.specs.DiskCode.{HasBlock, HasRun, MergeFits, WriteFits, Copied};
 use section::Section;
 use table::Entry;
 
@@ -60,7 +60,7 @@ pub fn copy_merge(disk: &mut [u8], lower: Section, upper: Section) -> u32
 }
 
 // Stores block `from` of `source` in block `to` of `target`.
-fn store_block(target: &mut [u8], to: usize, source: &[u8], from: usize)
+pub fn store_block(target: &mut [u8], to: usize, source: &[u8], from: usize)
     requires { ⌜ HasBlock (length (now target)) to ⌝ }
     requires { ⌜ HasBlock (length (now source)) from ⌝ }
     ensures { λ _. ⌜ now (target .exit) ≡ storeBlock (now (target .entry)) to (block (now (source .entry)) from) ⌝ }
@@ -108,44 +108,5 @@ pub fn write_pages(disk: &mut [u8], content: &[u8], e: Entry)
         write_run(disk, s.first as usize, content, page, n);
         page += n;
         j += 1;
-    }
-}
-
-// The block that holds a page of a file, and 0 past its last page.
-pub fn block_of_page(e: Entry, page: usize) -> u32
-    requires { ⌜ EntryFits (blockSize * greatestDisk) e ⌝ }
-    ensures { λ r. ⌜ r ≡ getD (blocksOf (piecesIn e)) page 0 ⌝ }
-{
-    let list = e.pieces;
-    let count = list.count;
-    let items = list.items;
-    let mut rest = page;
-    let mut j: usize = 0;
-    while j < count {
-        let piece = items[j];
-        let s = piece.section();
-        let h = s.height;
-        let n = h.length();
-        if rest < n as usize {
-            return s.first + rest as u32;
-        }
-        rest -= n as usize;
-        j += 1;
-    }
-    0
-}
-
-// Fills the output with the file's pages from `first` on.
-pub fn read_pages(disk: &[u8], e: Entry, first: usize, out: &mut [u8])
-    requires { ⌜ ReadFits (length (now disk)) (length (now out)) first e ⌝ }
-    ensures { λ _. ⌜ now (out .exit)
-        ≡ joinPages (take (pageCount (now (out .entry))) (drop first (pagesOn (now (disk .entry)) (piecesIn e)))) ⌝ }
-{
-    let count = out.len() / Section::BLOCK_SIZE;
-    let mut i: usize = 0;
-    while i < count {
-        let b = block_of_page(e, first + i);
-        store_block(out, i, disk, b as usize);
-        i += 1;
     }
 }

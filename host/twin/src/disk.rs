@@ -32,23 +32,18 @@ pub fn write_pages(disk: &mut [u8], content: &[u8], entry: &Entry) {
     }
 }
 
-/// The block that holds a page of a file.
-fn block_of_page(entry: &Entry, page: usize) -> Option<usize> {
-    let mut rest = page;
-    for piece in entry.pieces.all() {
-        let length = piece.length() as usize;
-        if rest < length {
-            return Some(piece.first as usize + rest);
-        }
-        rest -= length;
-    }
-    None
-}
-
 /// Fills the output with a file's pages from `first` on.
 pub fn read_pages(disk: &[u8], entry: &Entry, first: usize, out: &mut [u8]) {
-    for (i, page) in out.chunks_exact_mut(BLOCK).enumerate() {
-        let block = block_of_page(entry, first + i).expect("the file has the page");
-        page.copy_from_slice(&disk[BLOCK * block..BLOCK * (block + 1)]);
+    let mut pages = out.chunks_exact_mut(BLOCK);
+    let mut before = first;
+    for piece in entry.pieces.all() {
+        let length = piece.length() as usize;
+        let skipped = before.min(length);
+        let start = BLOCK * (piece.first as usize + skipped);
+        let blocks = disk[start..].chunks_exact(BLOCK).take(length - skipped);
+        for (block, page) in blocks.zip(&mut pages) {
+            page.copy_from_slice(block);
+        }
+        before -= skipped;
     }
 }

@@ -1,29 +1,30 @@
--- `block_of_page` goes through the pieces to the one that has the page. Among the pieces left, the page that is
--- left to pass is the page that is asked for. Assumes nothing.
--- `block_of_page` goes through the pieces to the one that has the page. Among the pieces left, the page that is
+-- `run_of_page` goes through the pieces to the one that has the page. Among the pieces left, the page that is
 -- left to pass is the page that is asked for. Assumes nothing.
 use Rattle.piece.specs.Packed.{seen}
 use Rattle.piece.proofs.Seen.{seen-length, seen-get}
 use Rattle.section.specs.Sections.{lengthOf}
 use Rattle.section.specs.declared.Section.{Section}
 use mathlib.Core.Path.{_∙_, _≡_, refl, ap, subst, sym}
-use Prim.Native.Nat.{_*_, _-_, _≤_, _+_}
+use Prim.Native.Nat.{_*_, _-_, _≤_, _+_, ℕ}
 use native.Mathlib.Omega.{arith}
 use lib.ListN.{drop, getD, length, take}
 use borrow.Author.Needs.{needs}
-use Rattle.blocks.proofs.DiskPieces.{page-here, page-later, page-none, piece-fits}
+use Rattle.blocks.proofs.DiskPieces.{piece-fits, run-here, run-later, run-none}
+use Rattle.blocks.proofs.RunSteps.{run-is}
 use Rattle.layout.specs.Layout.{blocksOf}
 use Rattle.section.specs.Heights.{NoHigher}
 use Rattle.section.specs.Limits.{blockSize, greatestDisk}
 use Rattle.piece_lists.proofs.Arrays.{length-of-mapped}
 use Rattle.piece_lists.specs.Few.{listOf, piecePlaces}
-use Rattle.blocks.proofs.disk.block_of_page.Statement.{statement}
-use Rattle.blocks.proofs.disk.block_of_page.Tie as tie
+use Rattle.blocks.proofs.reading.run_of_page.Statement.{statement}
+use Rattle.blocks.proofs.reading.run_of_page.Tie as tie
 
 abbrev Inv-loop : tie.InvT-loop
 Inv-loop page count items rest₀ j₀ rest j =
     (length items ≡ piecePlaces) × (count ≤ piecePlaces) × (j ≤ count)
-    × (getD (blocksOf (drop j (take count (seen items)))) rest 0 ≡ getD (blocksOf (take count (seen items))) page 0)
+    × ((k : ℕ)
+    → getD (blocksOf (drop j (take count (seen items)))) (rest + k) 0
+    ≡ getD (blocksOf (take count (seen items))) (page + k) 0)
 
 abbrev μ-loop : tie.MeasureT-loop
 μ-loop page count items rest₀ j₀ rest j = count - j
@@ -32,7 +33,7 @@ loop-holds : tie.Need-loop-holds Inv-loop μ-loop
 loop-holds c =
     let a = c .before .before in
     let e : length (a .args .e .pieces .items) ≡ piecePlaces = search (needs, length-of-mapped) in
-    (e, a .pre .count, omega arith, refl)
+    (e, a .pre .count, omega arith, λ k. refl)
 
 mul-piece : tie.Need-mul-piece Inv-loop μ-loop
 mul-piece c = search needs
@@ -56,12 +57,12 @@ length-requires c κs =
 cast-if1 : tie.Need-cast-if1 Inv-loop μ-loop
 cast-if1 c = search needs
 
-cast-result : tie.Need-cast-result Inv-loop μ-loop
-cast-result c = search needs
+cast-passed : tie.Need-cast-passed Inv-loop μ-loop
+cast-passed c = search needs
 
-add-result : tie.Need-add-result Inv-loop μ-loop
+add-t18 : tie.Need-add-t18 Inv-loop μ-loop
 unfolding listOf
-add-result c =
+add-t18 c =
     let b = c .before .before .before .before .before .before .before in
     let a = b .before .before .before in
     let e = a .args .e .pieces in
@@ -71,6 +72,9 @@ add-result c =
     (c .before .before .before .before .before .before .loop-test .taken) (a .pre .pieces) in
     let x = c .before .before .before .before .section .ensures ∙ sym (seen-get (e .items) (b .loop .j)) in
     omega (arith, p .within, ap (λ (z : Section). z .first) x, ap lengthOf x, c .before .before .length .ensures .equal)
+
+sub-t19 : tie.Need-sub-t19 Inv-loop μ-loop
+sub-t19 c = search needs
 
 returns : tie.Need-returns Inv-loop μ-loop
 unfolding listOf
@@ -83,11 +87,12 @@ returns c =
     let t = c .before .before .before .before .before .before .loop-test .taken in
     let k = c .before .before .length in
     let x = c .before .before .before .before .section .ensures ∙ sym (seen-get (e .items) (b .loop .j)) in
-    ap (λ (z : Section). z .first + b .loop .rest) x
-    ∙ page-here (seen (e .items)) (e .count) (b .loop .j) (omega arith) (b .loop .rest) (k .result) t
-    (k .ensures .equal ∙ ap lengthOf x)
-    (c .before .if1 .taken)
-    ∙ v .3
+    let p = piece-fits (blockSize * greatestDisk) (seen (e .items)) (e .count) (b .loop .j) (omega arith) t
+    (a .pre .pieces) in
+    let on = run-here (seen (e .items)) (e .count) (b .loop .j) (b .loop .rest) (a .args .page) (omega arith) (v .3) t
+    (k .result) (k .ensures .equal ∙ ap lengthOf x) (c .before .if1 .taken) in
+    run-is _ _ _ _ (λ i q. ap (λ (z : Section). z .first + b .loop .rest + i) x ∙ on i q) (omega arith)
+    (omega (arith, p .within, ap (λ (z : Section). z .first) x, ap lengthOf x, k .ensures .equal))
 
 cast-rest : tie.Need-cast-rest Inv-loop μ-loop
 cast-rest c = search needs
@@ -114,10 +119,8 @@ loop-again c =
       v .0,
       v .1,
       omega arith,
-      page-later (seen (e .items)) (e .count) (b .loop .j) (omega arith) (b .loop .rest) (k .result) t
-          (k .ensures .equal ∙ ap lengthOf x)
-          (c .if1 .left)
-          ∙ v .3,
+      run-later (seen (e .items)) (e .count) (b .loop .j) (b .loop .rest) (a .args .page) (omega arith) (v .3) t
+          (k .result) (k .ensures .equal ∙ ap lengthOf x) (c .if1 .left),
     )
 
 returns-2 : tie.Need-returns-2 Inv-loop μ-loop
@@ -128,13 +131,19 @@ returns-2 c =
     let e = a .args .e .pieces in
     let n = seen-length (e .items) in
     let v = b .loop .inv in
-    page-none (seen (e .items)) (e .count) (b .loop .j) (omega arith) (b .loop .rest) (c .loop-test .left) ∙ v .3
+    record {
+      first =
+          run-none (seen (e .items)) (e .count) (b .loop .j) (b .loop .rest) (a .args .page) (omega arith) (v .3)
+          (c .loop-test .left);
+      next = λ i q. absurd (omega arith);
+      within = omega arith;
+    }
 
 section-requires : tie.Need-section-requires Inv-loop μ-loop
 section-requires c κs = search needs
 
-pub block-of-page-spec : {M : Type 1} → statement M
-block-of-page-spec =
+pub run-of-page-spec : {M : Type 1} → statement M
+run-of-page-spec =
     tie.close
     (tie.spec
     Inv-loop
@@ -145,8 +154,9 @@ block-of-page-spec =
     section-requires
     length-requires
     cast-if1
-    cast-result
-    add-result
+    cast-passed
+    add-t18
+    sub-t19
     returns
     cast-rest
     sub-rest

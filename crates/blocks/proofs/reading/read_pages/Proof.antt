@@ -1,6 +1,6 @@
 -- `read_pages` fills the output page by page. The pages read so far stand at its start, and the rest is as it was.
 -- Assumes nothing.
-use mathlib.Core.Path.{_∙_, _≡_, refl, sym}
+use mathlib.Core.Path.{_∙_, _≡_, refl, subst, sym}
 use Prim.Native.Nat.{_*_, _+_, _-_, _<_, _≤_}
 use native.Mathlib.Omega.{arith}
 use lib.ListN.{length}
@@ -8,29 +8,36 @@ use borrow.Author.Needs.{needs}
 use Rattle.blocks.proofs.DiskPieces.{entry-most, entry-wider, page-on-disk}
 use Rattle.blocks.proofs.DiskReading.{Filled, filled-end, filled-more, filled-start, page-bytes, page-there}
 use Rattle.blocks.proofs.DiskReading.{pagesFrom}
-use Rattle.layout.specs.Layout.{blockCount}
+use Rattle.blocks.proofs.RunSteps.{run-follows, run-start}
+use Rattle.blocks.specs.Runs.{Follows}
+use Rattle.layout.specs.Layout.{blockCount, blocksOf}
 use Rattle.manager.proofs.Blocks.{block-length}
 use Rattle.manager.specs.Disk.{block, pageCount}
 use Rattle.section.specs.Limits.{blockSize, greatestDisk}
 use Rattle.table.specs.Tables.{piecesIn}
-use Rattle.blocks.proofs.disk.read_pages.Statement.{statement}
-use Rattle.blocks.proofs.disk.read_pages.Tie as tie
+use Rattle.blocks.proofs.reading.read_pages.Statement.{statement}
+use Rattle.blocks.proofs.reading.read_pages.Tie as tie
 
 abbrev Inv-loop : tie.InvT-loop
-Inv-loop disk e first out₀ count i₀ out i =
+Inv-loop disk e first out₀ count run₀ i₀ out run i =
     (count ≡ pageCount out₀) × (i ≤ count) × (length out ≡ length out₀)
-    × Filled (pagesFrom disk (piecesIn e) first) out₀ out i
+    × Filled (pagesFrom disk (piecesIn e) first) out₀ out i × Follows (blocksOf (piecesIn e)) (first + i) run
 
 abbrev μ-loop : tie.MeasureT-loop
-μ-loop disk e first out₀ count i₀ out i = count - i
+μ-loop disk e first out₀ count run₀ i₀ out run i = count - i
 
 loop-holds : tie.Need-loop-holds Inv-loop μ-loop
 loop-holds c =
-    let a = c .before .before .args in
-    (refl, omega arith, refl, filled-start (pagesFrom (a .disk .now) (piecesIn (a .e)) (a .first)) (a .out .now))
+    let a = c .before .before .args in (
+      refl,
+      omega arith,
+      refl,
+      filled-start (pagesFrom (a .disk .now) (piecesIn (a .e)) (a .first)) (a .out .now),
+      run-start (blocksOf (piecesIn (a .e))) (a .first + 0),
+    )
 
-add-block-of-page : tie.Need-add-block-of-page Inv-loop μ-loop
-add-block-of-page c =
+add-run-on : tie.Need-add-run-on Inv-loop μ-loop
+add-run-on c =
     let a = c .before .before .before .before in
     omega (
       arith,
@@ -39,11 +46,13 @@ add-block-of-page c =
       entry-most (length (a .args .disk .now)) (a .args .e) (a .pre .entry),
     )
 
-block-of-page-requires : tie.Need-block-of-page-requires Inv-loop μ-loop
-block-of-page-requires c κs =
-    let a = c .before .before .before .before in
-    entry-wider (length (a .args .disk .now)) (blockSize * greatestDisk) (a .args .e) (a .pre .entry .disk)
-    (omega arith) (a .pre .entry)
+run-on-requires : tie.Need-run-on-requires Inv-loop μ-loop
+run-on-requires c κs =
+    let a = c .before .before .before .before in (
+      entry-wider (length (a .args .disk .now)) (blockSize * greatestDisk) (a .args .e) (a .pre .entry .disk)
+          (omega arith) (a .pre .entry),
+      c .before .loop .inv .4,
+    )
 
 cast-store-block : tie.Need-cast-store-block Inv-loop μ-loop
 cast-store-block c = search needs
@@ -53,7 +62,7 @@ store-block-requires c κs =
     let b = c .before .before .before in
     let a = b .before .before .before in
     let v = b .loop .inv in
-    let f = c .before .block-of-page .ensures in
+    let f = c .before .run-on .ensures .first in
     let i = b .loop .i in
     let x = a .args .first + i in
     let p = page-on-disk (length (a .args .disk .now)) x (a .pre .entry .pieces)
@@ -71,20 +80,24 @@ loop-again c =
     let b = c .before .before .before .before .before .before in
     let a = b .before .before .before in
     let v = b .loop .inv in
-    let f = c .before .before .before .before .block-of-page in
+    let f = c .before .before .before .before .run-on in
     let k = c .before .before .store-block in
     let i = b .loop .i in
     let d = a .args .disk .now in
     let l = piecesIn (a .args .e) in
     let t : a .args .first + i < blockCount l =
     omega (arith, a .pre .pages, v .0, c .before .before .before .before .before .loop-test .taken) in
-    let p = page-on-disk (length d) (a .args .first + i) (a .pre .entry .pieces) t in (
+    let p = page-on-disk (length d) (a .args .first + i) (a .pre .entry .pieces) t in
+    let y : a .args .first + i + 1 ≡ a .args .first + (i + 1) = omega arith in (
       v .0,
       omega arith,
       k .kept .0 ∙ v .2,
-      filled-more (pagesFrom d l (a .args .first)) (a .args .out .now) (b .loop .out) i (v .3) (block d (f .result))
-          _ (page-there d l (a .args .first) i t) (page-bytes d l (a .args .first) i t (f .result) (f .ensures))
-          (block-length d (f .result) (omega (arith, f .ensures, p))) (k .ensures),
+      filled-more (pagesFrom d l (a .args .first)) (a .args .out .now) (b .loop .out) i (v .3)
+          (block d (f .result .first)) _ (page-there d l (a .args .first) i t)
+          (page-bytes d l (a .args .first) i t (f .result .first) (f .ensures .first))
+          (block-length d (f .result .first) (omega (arith, f .ensures .first, p))) (k .ensures),
+      subst (λ n. Follows (blocksOf l) n (f .result)) y
+          (run-follows (blocksOf l) (a .args .first + i) (f .result) (f .ensures)),
     )
 
 same-length : tie.Need-same-length Inv-loop μ-loop
@@ -106,8 +119,8 @@ read-pages-spec =
     Inv-loop
     μ-loop
     loop-holds
-    add-block-of-page
-    block-of-page-requires
+    add-run-on
+    run-on-requires
     cast-store-block
     store-block-requires
     add-i

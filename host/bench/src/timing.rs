@@ -23,16 +23,31 @@ pub fn batch_of(side: Side, call: Call, shape: &Shape) -> usize {
     (BATCH_PAGES / moved).clamp(1, BATCH)
 }
 
+/// The places of the stack at which rounds run: together their steps are longer than a page.
+const PLACES: usize = 64;
+
+/// Runs something with the stack so many steps of 64 bytes or more deeper.
+#[inline(never)]
+fn deeper(steps: usize, run: &mut dyn FnMut() -> f64) -> f64 {
+    let room = black_box([0u8; 64]);
+    let time = if steps == 0 { run() } else { deeper(steps - 1, run) };
+    black_box(&room);
+    time
+}
+
 /// Runs rounds in each of which every series has its turn. The order changes from round to round: what is in the caches
-/// is left there by the series before. The times that `run` answers are collected by series.
+/// is left there by the series before. So does the place of the stack, by less than a page: a copy takes longer where
+/// both its ends are at nearly the same distance from the start of a page. The times that `run` answers are collected
+/// by series.
 pub fn interleaved(series: usize, rounds: usize, mut run: impl FnMut(usize) -> f64) -> Vec<Vec<f64>> {
     let mut numbers = Numbers(series as u64);
     let mut order: Vec<usize> = (0..series).collect();
     let mut times = vec![Vec::with_capacity(rounds); series];
     for round in 0..WARM_UP + rounds {
         numbers.shuffle(&mut order);
+        let place = numbers.below(PLACES);
         for &which in &order {
-            let time = run(which);
+            let time = deeper(place, &mut || run(which));
             if round >= WARM_UP {
                 times[which].push(time);
             }

@@ -59,12 +59,14 @@ static void case_6(void)
 
 static void case_7(void)
 {
-  expect("remove 5", removed(5), 2);
+  int64_t before = disk[6 * EVDISK_BLOCK];
+  expect("remove 5", removed(5), 1);
   expect("free", evdisk_free(cat, cat_length), 13);
   expect("check", evdisk_check(cat, cat_length, disk, DISK), BLOCKS);
   expect_pages(9, 1);
   expect_pages(2, 2);
   expect("place of 9", disk[7 * EVDISK_BLOCK], 9);
+  expect("free block beside it", disk[6 * EVDISK_BLOCK], before);
 }
 
 static void case_8(void)

@@ -32,10 +32,9 @@ entry-on-disk c e m n o = record {
     bytes s p = omega arith
 
 -- two free sections of one height, of which the lower has its buddy on the disk
-pub merge-on-disk : (c : ℕ) (l u : Section) → c ≤ greatestDisk → OnDisk c l → OnDisk c (buddyOf l) → OnDisk c u
+pub merge-on-disk : (c : ℕ) (l u : Section) → c ≤ greatestDisk → OnDisk c (buddyOf l) → OnDisk c u
     → u .height .value ≡ l .height .value → MergeFits (blockSize * c) l u
-merge-on-disk c l u m ol ob ou e = record {
-  height = height-fits c l m ol;
+merge-on-disk c l u m ob ou e = record {
   buddy = omega (arith, ob .within);
   upper = omega (arith, ou .within, ap (λ h. 2 ^ h) e);
   disk = omega arith;

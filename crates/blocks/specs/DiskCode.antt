@@ -27,7 +27,6 @@ HasRun d a n = blockSize * (a + n) ≤ d
 
 -- a disk of d bytes has the blocks that the merge of l and u reads and writes
 pub record MergeFits (d : ℕ) (l u : Section) : Type 0 where
-  pub height : NoHigher (l .height)
   pub buddy : blockSize * (buddyFirst (l .height .value) (l .first) + lengthOf l) ≤ d
   pub upper : blockSize * (u .first + lengthOf l) ≤ d
   pub disk : d ≤ blockSize * greatestDisk

@@ -7,10 +7,13 @@ ghost use Prim.Native.Nat.{_*_, _≤_};
 ghost use lib.ListN.{length, drop};
 ghost use Rattle.section.specs.Limits.{blockSize, greatestDisk};
 ghost use Rattle.layout.specs.Layout.{blockRun, blocksOf};
-ghost use Rattle.layout.specs.Removing.{copyRun, mergeCopies};
+ghost use Rattle.layout.specs.Removing.{copyRun};
+ghost use Rattle.free_pieces.specs.Gaps.{PairFits, pairCopies};
 ghost use Rattle.table.specs.Tables.{piecesIn};
 ghost use Rattle.manager.specs.Disk.{block, storeBlock, pageCount, cutPages, writePages};
 ghost use Rattle.blocks.specs.DiskCode.{HasBlock, HasRun, MergeFits, WriteFits, Copied};
+use free_pieces::Pair;
+use free_pieces::gap_before;
 use section::Section;
 use table::Entry;
 
@@ -45,18 +48,35 @@ pub fn copy_run(disk: &mut [u8], from: u32, to: u32, n: u32) -> u32
     made
 }
 
-// Makes the copies of a merge, the blocks of the lower section's buddy to the upper one, and answers how many.
-pub fn copy_merge(disk: &mut [u8], lower: Section, upper: Section) -> u32
-    requires { ⌜ MergeFits (length (now disk)) lower upper ⌝ }
-    ensures { λ r. ⌜ Copied (now (disk .entry)) (now (disk .exit)) (mergeCopies lower upper) greatestDisk r ⌝ }
+// Makes the copies of a merge, the blocks of the lower section's buddy that lie between the free pieces to the upper
+// one, and answers how many.
+pub fn copy_merge(disk: &mut [u8], p: Pair) -> u32
+    requires { ⌜ MergeFits (length (now disk)) (p .lower) (p .upper) ⌝ }
+    requires { ⌜ PairFits p ⌝ }
+    ensures { λ r. ⌜ Copied (now (disk .entry)) (now (disk .exit)) (pairCopies p) greatestDisk r ⌝ }
 {
+    let lower = p.lower;
+    let upper = p.upper;
     let buddy = lower.buddy();
     if buddy.first == upper.first {
         return 0;
     }
-    let h = lower.height;
-    let n = h.length();
-    copy_run(disk, buddy.first, upper.first, n)
+    let others = p.others;
+    let m = others.count;
+    let mut at = buddy.first;
+    let mut copied: u32 = 0;
+    let mut j: usize = 0;
+    while j < m {
+        let piece = others.items[j];
+        let s = piece.section();
+        let gap = gap_before(buddy, at, s);
+        let made = copy_run(disk, at, upper.first + (at - buddy.first), gap.count);
+        copied += made;
+        at = gap.past;
+        j += 1;
+    }
+    let made = copy_run(disk, at, upper.first + (at - buddy.first), buddy.end() - at);
+    copied + made
 }
 
 // Stores block `from` of `source` in block `to` of `target`.

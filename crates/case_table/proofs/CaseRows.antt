@@ -63,7 +63,9 @@ pub record Row : Type 0 where
 
 -- the height of a length: those that the cases have
 abbrev pub heightOfLength : ℕ → ℕ
-heightOfLength n = cond (eqb n 1) 0 (cond (eqb n 2) 1 (cond (eqb n 4) 2 (cond (eqb n 8) 3 (cond (eqb n 256) 8 99))))
+heightOfLength n =
+    cond (eqb n 1) 0
+    (cond (eqb n 2) 1 (cond (eqb n 4) 2 (cond (eqb n 8) 3 (cond (eqb n 16) 4 (cond (eqb n 256) 8 99)))))
 
 -- a pair, as in the document: first block and length
 abbrev pub pairAt : ℕ → ℕ → Section
@@ -158,13 +160,6 @@ layoutBeforeEleven =
     ∷ fileWith 3 (pairAt 8 4 ∷ pairAt 12 1 ∷ []) ∷ [])
     (pairAt 7 1 ∷ pairAt 14 2 ∷ [])
 
--- the layout from which a removal copies a page twice
-abbrev pub layoutBeforeTwice : Layout
-layoutBeforeTwice =
-    laidOut 8
-    (fileWith 1 (pairAt 2 1 ∷ []) ∷ fileWith 2 (pairAt 0 1 ∷ []) ∷ fileWith 3 (pairAt 4 2 ∷ pairAt 3 1 ∷ []) ∷ [])
-    (pairAt 1 1 ∷ pairAt 6 2 ∷ [])
-
 -- id 2 in cases 6 to 8
 abbrev pub fileTwo : FileSeen
 fileTwo = fileSeen 2 0 (4 ∷ 5 ∷ []) (32 ∷ 33 ∷ [])
@@ -183,7 +178,7 @@ fileSeven =
 abbrev pub fileNine : FileSeen
 fileNine = fileSeen 9 0 (3 ∷ []) (144 ∷ [])
 
--- id 9 in case 7: its page was copied with the blocks around it
+-- id 9 in case 7: its page was copied, and no block beside it
 abbrev pub fileNineMoved : FileSeen
 fileNineMoved = fileSeen 9 0 (7 ∷ []) (144 ∷ [])
 

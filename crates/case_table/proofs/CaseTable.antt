@@ -1,15 +1,15 @@
--- Cases 1 to 11 of document 01, "Small disks by hand", as one table, written out by hand. Further rows have a page
--- that is copied twice, reads of parts, and calls that are refused. `cases-hold` of `Cases` computes all rows
--- together. Assumes nothing.
+-- Cases 1 to 11 of document 01, "Small disks by hand", as one table, written out by hand; case 7 with the copies of
+-- document 02, W2. Further rows have reads of parts, calls that are refused, and the removals of `mergeRows`.
+-- `cases-hold` of `Cases` computes all rows together. Assumes nothing.
 use mathlib.Core.List.{List, [], _++_, _∷_}
 use lib.ListN.{replicate}
 use Rattle.case_table.proofs.CaseRows.{Row, answer, asBefore, contentOf, copied, fileFive, fileNine}
 use Rattle.case_table.proofs.CaseRows.{fileNineMoved, fileSeen, fileSeven, fileTwo, fileWith, freshDisk}
-use Rattle.case_table.proofs.CaseRows.{givenLayout, laidOut, layoutBeforeEleven, layoutBeforeTwice}
-use Rattle.case_table.proofs.CaseRows.{layoutEight}
+use Rattle.case_table.proofs.CaseRows.{givenLayout, laidOut, layoutBeforeEleven, layoutEight}
 use Rattle.case_table.proofs.CaseRows.{layoutFive, layoutFour, layoutSeven, layoutSix, pagesRead, pairAt}
 use Rattle.case_table.proofs.CaseRows.{readRefused, refuse, untouched, upToFive, upToFour, upToSeven}
 use Rattle.case_table.proofs.CaseRows.{upToSix}
+use Rattle.case_table.proofs.MergeRows.{mergeRows}
 use Rattle.manager.specs.Call.{add, breaks, check, free, read, remove}
 
 -- all rows
@@ -79,11 +79,11 @@ caseTable =
     ∷ record {
       start = freshDisk 16;
       calls = upToSeven;
-      replies = answer 16 ∷ answer 3 ∷ answer 1 ∷ answer 2 ∷ answer 2 ∷ [];
-      copies = copied 2 6 ∷ copied 3 7 ∷ [];
+      replies = answer 16 ∷ answer 3 ∷ answer 1 ∷ answer 2 ∷ answer 1 ∷ [];
+      copies = copied 3 7 ∷ [];
       layout = layoutSeven;
       files = fileTwo ∷ fileNineMoved ∷ [];
-      disk = 80 ∷ 81 ∷ 82 ∷ 144 ∷ 32 ∷ 33 ∷ 82 ∷ 144 ∷ asBefore 8;
+      disk = 80 ∷ 81 ∷ 82 ∷ 144 ∷ 32 ∷ 33 ∷ 255 ∷ 144 ∷ asBefore 8;
     }
     -- case 8, and a read of two pages that lie in two pieces
     ∷ record {
@@ -141,18 +141,6 @@ caseTable =
           ∷ fileSeen 3 1 (8 ∷ 9 ∷ 10 ∷ 11 ∷ 12 ∷ []) (8 ∷ 9 ∷ 10 ∷ 11 ∷ 12 ∷ []) ∷ [];
       disk = 0 ∷ 1 ∷ 2 ∷ 3 ∷ 4 ∷ 5 ∷ 6 ∷ 7 ∷ 8 ∷ 9 ∷ 10 ∷ 11 ∷ 12 ∷ 6 ∷ 4 ∷ 5 ∷ [];
     }
-    -- beyond the cases: a removal that copies a page twice, from block 0 to 2 and on to 6
-    ∷ record {
-      start = givenLayout layoutBeforeTwice;
-      calls = remove 1 ∷ read 2 0 (untouched 1) ∷ [];
-      replies = answer 3 ∷ pagesRead 1 (0 ∷ []) ∷ [];
-      copies = copied 0 2 ∷ copied 2 6 ∷ copied 3 7 ∷ [];
-      layout =
-          laidOut 8 (fileWith 2 (pairAt 6 1 ∷ []) ∷ fileWith 3 (pairAt 4 2 ∷ pairAt 7 1 ∷ []) ∷ [])
-          (pairAt 0 4 ∷ []);
-      files = fileSeen 2 0 (6 ∷ []) (0 ∷ []) ∷ fileSeen 3 1 (4 ∷ 5 ∷ 7 ∷ []) (4 ∷ 5 ∷ 3 ∷ []) ∷ [];
-      disk = 0 ∷ 1 ∷ 0 ∷ 3 ∷ 4 ∷ 5 ∷ 0 ∷ 3 ∷ [];
-    }
     -- case 4 with reads of parts
     ∷ record {
       start = freshDisk 16;
@@ -188,11 +176,11 @@ caseTable =
           ++ (breaks 9 ∷ free ∷ check ∷ add 0 [] ∷ add 9 [] ∷ add 3 [] ∷ add 3 (replicate 511 48)
           ∷ add 3 (contentOf 3 14) ∷ breaks 0 ∷ breaks 5 ∷ remove 0 ∷ remove 5 ∷ []);
       replies =
-          answer 16 ∷ answer 3 ∷ answer 1 ∷ answer 2 ∷ answer 2 ∷ answer 0 ∷ answer 13 ∷ answer 16 ∷ refuse 5
+          answer 16 ∷ answer 3 ∷ answer 1 ∷ answer 2 ∷ answer 1 ∷ answer 0 ∷ answer 13 ∷ answer 16 ∷ refuse 5
           ∷ refuse 7 ∷ refuse 8 ∷ refuse 8 ∷ refuse 11 ∷ refuse 5 ∷ refuse 6 ∷ refuse 5 ∷ refuse 6 ∷ [];
       copies = [];
       layout = layoutSeven;
       files = fileTwo ∷ fileNineMoved ∷ [];
-      disk = 80 ∷ 81 ∷ 82 ∷ 144 ∷ 32 ∷ 33 ∷ 82 ∷ 144 ∷ asBefore 8;
+      disk = 80 ∷ 81 ∷ 82 ∷ 144 ∷ 32 ∷ 33 ∷ 255 ∷ 144 ∷ asBefore 8;
     }
-    ∷ []
+    ∷ mergeRows

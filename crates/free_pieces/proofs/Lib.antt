@@ -4,3 +4,6 @@ pub mod Fewer
 pub mod PieceTaken
 pub mod LaidMore
 pub mod PiecesLaid
+pub mod GapRuns
+pub mod HeldGaps
+pub mod GapSteps

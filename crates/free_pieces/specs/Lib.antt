@@ -2,3 +2,4 @@
 pub mod Free
 pub mod Taking
 pub mod Allocating
+pub mod Gaps

@@ -7,11 +7,13 @@ use section::Section;
 
 mod allocating;
 mod few;
+mod gaps;
 mod lists;
 mod pairs;
 mod taking;
 
 pub use allocating::allocate;
+pub use gaps::gap_before;
 pub use taking::take_piece;
 
 // The free pieces by rising first block. Between a release and its merges there are more than a sound layout has.
@@ -38,6 +40,12 @@ pub struct Pair {
     pub lower: Section,
     pub upper: Section,
     pub others: Free,
+}
+
+// A run of blocks up to a free piece, and the block from which on to look for the next.
+pub struct Gap {
+    pub count: u32,
+    pub past: u32,
 }
 
 // The pieces of a new file in page order and the free pieces that are left, if there were enough.

@@ -4,10 +4,11 @@ use mathlib.Core.List.{List, [], _∷_}
 use mathlib.Core.Path.{_≡_, refl}
 use Prim.Native.Nat.{ℕ}
 use Rattle.layout.specs.Adding.{allocate, allocated, takeFirst, takePiece}
-use Rattle.layout.specs.Layout.{File, Layout, blockRun, blocksOf, freshLayout, piecesFrom}
+use Rattle.layout.specs.Layout.{File, Layout, blockRun, blocksOf, filePieces, freshLayout, inRange}
+use Rattle.layout.specs.Layout.{piecesFrom}
 use Rattle.layout.specs.Lists.{insertBy, sortBy}
-use Rattle.layout.specs.Removing.{Copy, copiesOf, copyRun, insertAll, layoutAfter, merge, mergeAll, mergePair}
-use Rattle.layout.specs.Removing.{nextMerge, release, removal, withoutFile}
+use Rattle.layout.specs.Removing.{Copy, copiesFrom, copiesOf, copyRun, insertAll, layoutAfter, merge, mergeAll}
+use Rattle.layout.specs.Removing.{mergePair, nextMerge, release, removal, withoutFile}
 use Rattle.section.specs.Sections.{buddyFirst, isInside, movedInto, parentFirst, section}
 use Rattle.section.specs.declared.Section.{Section}
 
@@ -62,7 +63,7 @@ pub removals :
     })
     ∷ []
     ≡ (record {
-      copies = copy 2 6 ∷ copy 3 7 ∷ [];
+      copies = copy 3 7 ∷ [];
       after = record {
         blocks = 16;
         files = file 2 (section 4 1 ∷ []) ∷ file 9 (section 7 0 ∷ []) ∷ [];
@@ -84,9 +85,30 @@ pub removals :
       };
     })
     ∷ []
-unfolding removal release mergeAll nextMerge mergePair merge takeFirst copyRun copiesOf layoutAfter insertAll
-    withoutFile insertBy sortBy movedInto isInside buddyFirst parentFirst
+unfolding removal release mergeAll nextMerge mergePair merge takeFirst filePieces inRange copyRun copiesFrom copiesOf
+    layoutAfter insertAll withoutFile insertBy sortBy movedInto isInside buddyFirst parentFirst
 removals = refl
+
+-- two free pieces that lie apart in the buddy: the blocks before, between and behind them are copied, and they move
+pub removal-around-free-pieces :
+    removed (file 1 (section 16 3 ∷ []))
+    (record {
+      blocks = 24;
+      files =
+          file 1 (section 16 3 ∷ []) ∷ file 2 (section 10 1 ∷ section 8 0 ∷ []) ∷ file 3 (section 14 1 ∷ []) ∷ [];
+      free = section 0 3 ∷ section 9 0 ∷ section 12 1 ∷ [];
+    })
+    ≡ record {
+      copies = copy 8 16 ∷ copy 10 18 ∷ copy 11 19 ∷ copy 14 22 ∷ copy 15 23 ∷ [];
+      after = record {
+        blocks = 24;
+        files = file 2 (section 18 1 ∷ section 16 0 ∷ []) ∷ file 3 (section 22 1 ∷ []) ∷ [];
+        free = section 0 4 ∷ section 17 0 ∷ section 20 1 ∷ [];
+      };
+    }
+unfolding removal release mergeAll nextMerge mergePair merge takeFirst filePieces inRange copyRun copiesFrom copiesOf
+    layoutAfter insertAll withoutFile insertBy sortBy movedInto isInside buddyFirst parentFirst
+removal-around-free-pieces = refl
 
 -- case 11: id 2 is read as blocks 0 to 3, 14, 15, 13
 pub case-eleven-blocks : blocksOf (section 0 2 ∷ section 14 1 ∷ section 13 0 ∷ [])

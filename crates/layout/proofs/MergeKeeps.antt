@@ -9,13 +9,14 @@ use lib.ListN.{length}
 use Rattle.layout.proofs.Cover.{Covers}
 use Rattle.layout.proofs.FilesMoved.{Moved}
 use Rattle.layout.proofs.MergeCopies.{runOrNone}
+use Rattle.layout.proofs.CopiesFrom.{count-from, counted-le}
 use Rattle.layout.proofs.Origins.{InDisk}
 use Rattle.layout.proofs.Splitting.{countOf}
 use Rattle.layout.proofs.Taking.{Rising}
 use Rattle.layout.proofs.Zipped.{Zipped}
 use Rattle.layout.specs.Layout.{File, Layout, OnDisk, allPieces, filePieces, holdsBlock}
 use Rattle.layout.specs.Lists.{Each, sumOf}
-use Rattle.layout.specs.Removing.{Copy, Merge, copyRun}
+use Rattle.layout.specs.Removing.{Copy, Merge, copiesFrom, copyRun, isHeld}
 use Rattle.section.specs.Sections.{lengthOf}
 
 -- the pieces of a layout, while it merges
@@ -42,6 +43,8 @@ pub record MergeKeeps (c h : ℕ) (w : Layout) (m : Merge) : Type 0 where
   pub few : length (m .copies) ≤ 2 ^ h
   pub reach : Each (InDisk c) (m .copies)
   pub rise : Each (λ (x : Copy). x .source < x .target) (m .copies)
+  pub held : Each (λ (x : Copy). isHeld (w .files) (x .source) ≡ true) (m .copies)
+  pub filled : Each (λ (x : Copy). isHeld (m .after .files) (x .target) ≡ true) (m .copies)
   pub apart : IntoFree (w .files) (m .copies)
   pub files : Zipped (Moved (m .copies)) (w .files) (m .after .files)
 
@@ -50,9 +53,9 @@ unfolding copyRun
 length-copyRun b u zero = refl
 length-copyRun b u (suc n) = ap suc (length-copyRun (suc b) (suc u) n)
 
-pub copies-le : (h b u : ℕ) → length (runOrNone (2 ^ h) b u) ≤ 2 ^ h
-copies-le h b u = go (eqb b u)
+pub copies-le : (p : ℕ → Bool) (h b u : ℕ) → length (runOrNone p (2 ^ h) b u) ≤ 2 ^ h
+copies-le p h b u = go (eqb b u)
   where
-    go : (t : Bool) → length (cond t [] (copyRun b u (2 ^ h))) ≤ 2 ^ h
+    go : (t : Bool) → length (cond t [] (copiesFrom p (copyRun b u (2 ^ h)))) ≤ 2 ^ h
     go true = omega arith
-    go false = omega (arith, length-copyRun b u (2 ^ h))
+    go false = omega (arith, count-from p (2 ^ h) b u, counted-le p (2 ^ h) b)

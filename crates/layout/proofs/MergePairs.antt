@@ -1,12 +1,12 @@
 -- The two free sections that a merge takes. Assumes nothing.
 use mathlib.Core.Bool.{Bool}
 use mathlib.Core.List.{List}
-use mathlib.Core.Path.{_≡_}
+use mathlib.Core.Path.{_≡_, refl}
 use Prim.Native.Nat.{_+_, _≤_, ℕ}
 use native.Mathlib.Omega.{arith}
 use Rattle.layout.proofs.Splitting.{count-none, countOf, ofHeight-same}
 use Rattle.layout.proofs.Taking.{Rising, Takes, TakesOf, nothing-height, takeFirst-is, takes-each}
-use Rattle.layout.proofs.Taking.{takes-height, takes-lowest, takes-sum}
+use Rattle.layout.proofs.Taking.{takes-height, takes-lowest, takes-rising, takes-sum}
 use Rattle.layout.specs.Adding.{Taken, nothing, takeFirst, taken}
 use Rattle.layout.specs.Layout.{OnDisk, hasHeight, ofHeight}
 use Rattle.layout.specs.Lists.{Each, sumOf}
@@ -18,6 +18,7 @@ pub record Mergeable (h : ℕ) (free : List Section) (l u : Section) (r : List S
   pub low : l .height .value ≡ h
   pub high : u .height .value ≡ h
   pub order : l .first ≤ u .first
+  pub rising : Rising r
   pub sum : (w : Section → ℕ) → sumOf w free ≡ w l + (w u + sumOf w r)
   pub each : (c : ℕ) → Each (OnDisk c) free → OnDisk c l × OnDisk c u × Each (OnDisk c) r
 
@@ -26,12 +27,13 @@ MergeableOf h free (pair l u r) = Mergeable h free l u r
 MergeableOf h free fewer = countOf h free ≤ 1
 
 mergeable : (h : ℕ) (free r r′ : List Section) (l u : Section) → l .height .value ≡ h → u .height .value ≡ h
-    → l .first ≤ u .first
+    → l .first ≤ u .first → Rising free
     → {p q : Section → Bool} → Takes p free l r → Takes q r u r′ → Mergeable h free l u r′
-mergeable h free r r′ l u lh uh o p q = record {
+mergeable h free r r′ l u lh uh o rise p q = record {
   low = lh;
   high = uh;
   order = o;
+  rising = takes-rising q (takes-rising p rise);
   sum = λ w. omega (arith, takes-sum w p, takes-sum w q);
   each = λ c e. let x = takes-each p e in let y = takes-each q (x .1) in (x .0, y .0, y .1);
 }
@@ -44,10 +46,28 @@ mergePair-is h free rise = go (takeFirst (hasHeight h) free) (takeFirst-is (hasH
         → MergeableOf h free (withLower l q)
     go2 l r p (taken u r′) q =
         mergeable h free r r′ l u (takes-height p) (takes-height q)
-        (takes-each q (takes-lowest p rise) .0 (takes-height q)) p q
+        (takes-each q (takes-lowest p rise) .0 (takes-height q)) rise p q
     go2 l r p nothing q =
         omega (arith, takes-sum (ofHeight h) p, ofHeight-same h l (takes-height p), count-none h (nothing-height q))
 
     go : (p : Taken) → TakesOf (hasHeight h) free p → MergeableOf h free (secondOf h p)
     go (taken l r) p = go2 l r p (takeFirst (hasHeight h) r) (takeFirst-is (hasHeight h) r)
     go nothing p = omega (arith, count-none h (nothing-height p))
+
+-- the upper one has the lowest first block of all others of its height
+abbrev pub LowestOf : ℕ → MergePair → Type 0
+LowestOf h (pair l u r) = Each (λ (s : Section). s .height .value ≡ h → u .first ≤ s .first) r
+LowestOf h fewer = _≡_ {A = ℕ} 0 0
+
+pub mergePair-lowest : (h : ℕ) (free : List Section) → Rising free → LowestOf h (mergePair h free)
+unfolding mergePair
+mergePair-lowest h free rise = go (takeFirst (hasHeight h) free) (takeFirst-is (hasHeight h) free)
+  where
+    go2 : (l : Section) (r : List Section) → Rising r → (q : Taken) → TakesOf (hasHeight h) r q
+        → LowestOf h (withLower l q)
+    go2 l r up (taken u r′) q = takes-lowest q up
+    go2 l r up nothing q = refl
+
+    go : (p : Taken) → TakesOf (hasHeight h) free p → LowestOf h (secondOf h p)
+    go (taken l r) p = go2 l r (takes-rising p rise) (takeFirst (hasHeight h) r) (takeFirst-is (hasHeight h) r)
+    go nothing p = refl

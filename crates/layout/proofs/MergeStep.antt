@@ -7,14 +7,15 @@ use Prim.Native.Nat.{_+_, _<_, _^_, _≤_, suc, ℕ}
 use native.Mathlib.Omega.{arith}
 use lib.Dec.{leb, ltb}
 use borrow.Author.Tests.{le-leb, le-ltb, leb-true, lt-leb, lt-ltb, ltb-true}
-use Rattle.layout.proofs.Cover.{Covers}
 use Rattle.layout.proofs.Lists.{each-append, each-head, each-imp, each-insert, each-left, each-right}
 use Rattle.layout.proofs.Lists.{each-sort, each-tail, length-sum, map-append, sum-append, sum-insert}
 use Rattle.layout.proofs.Lists.{sum-map, sum-sort}
 use Rattle.layout.proofs.MergeKeeps.{IntoFree, MergeKeeps, Whole, copies-le}
 use Rattle.layout.proofs.MergePairs.{Mergeable}
+use Rattle.layout.proofs.MergeParts.{MergeParts, merge-parts, otherPieces}
 use Rattle.layout.proofs.Merging.{merge-covers, merge-on-disk}
 use Rattle.layout.proofs.MergingCopies.{merge-apart, merge-copies-rise, merge-files, merge-reach}
+use Rattle.layout.proofs.MergingCopies.{merge-sources-held, merge-targets-held}
 use Rattle.layout.proofs.MovedPieces.{count-moved, pieces-moved, section-eta, sum-moved}
 use Rattle.layout.proofs.Ranges.{inRange-inside, inRange-le-one}
 use Rattle.layout.proofs.Splitting.{countOf, ofHeight-other, ofHeight-same}
@@ -22,7 +23,7 @@ use Rattle.layout.proofs.Swaps.{same}
 use Rattle.layout.proofs.Taking.{insert-rising, sort-rising}
 use Rattle.layout.specs.Layout.{Layout, OnDisk, byFirst, filePieces, holdsBlock, inRange, ofHeight}
 use Rattle.layout.specs.Lists.{Each, sumOf}
-use Rattle.layout.specs.Removing.{merge, movedFile}
+use Rattle.layout.specs.Removing.{isHeld, merge, movedFile}
 use Rattle.section.proofs.Booleans.{and-true, false-and}
 use Rattle.section.proofs.Multiples.{length-double}
 use Rattle.section.specs.Sections.{Apart, buddyFirst, lengthOf, movedInto, parentFirst, section}
@@ -31,20 +32,8 @@ use Rattle.section.specs.declared.Section.{Section}
 -- the merge of the free sections of height h at a and v
 module _ (c h a v : ℕ) (w : Layout) (r : List Section) (wh : Whole c w)
     (p : Mergeable h (w .free) (section a h) (section v h) r) where
-  tops : OnDisk c (section a h) × OnDisk c (section v h) × Each (OnDisk c) r
-  tops = p .each c (each-right (filePieces (w .files)) (w .free) (wh .disk))
-
-  before : Covers c (section a h ∷ section v h ∷ (filePieces (w .files) ++ r))
-  before x = omega (
-    arith,
-    wh .covers x,
-    sum-append (holdsBlock x) (filePieces (w .files)) (w .free),
-    sum-append (holdsBlock x) (filePieces (w .files)) r,
-    p .sum (holdsBlock x),
-  )
-
-  od : Each (OnDisk c) (filePieces (w .files) ++ r)
-  od = each-append (each-left (filePieces (w .files)) (w .free) (wh .disk)) (tops .2)
+  parts : MergeParts c w (section a h) (section v h) r
+  parts = merge-parts c w (section a h) (section v h) r wh p
 
   free-sum : (g : Section → ℕ)
       → sumOf g (merge (section a h) (section v h) r w .after .free)
@@ -88,7 +77,8 @@ module _ (c h a v : ℕ) (w : Layout) (r : List Section) (wh : Whole c w)
       arith,
       subst (λ z. holdsBlock x (section (parentFirst h a) (suc h)) + sumOf (holdsBlock x) z ≡ inRange x 0 c)
           moved-pieces
-          (merge-covers c h a v (p .order) (tops .0) (tops .1) (filePieces (w .files) ++ r) od before x),
+          (merge-covers c h a v (p .order) (parts .lower) (parts .upper) (otherPieces w r) (parts .others)
+          (parts .covers) x),
       sum-append (holdsBlock x) files′ (merge (section a h) (section v h) r w .after .free),
       sum-append (holdsBlock x) files′ rest′,
       free-sum (holdsBlock x),
@@ -98,7 +88,8 @@ module _ (c h a v : ℕ) (w : Layout) (r : List Section) (wh : Whole c w)
       moved-disk : Each (OnDisk c) (section (parentFirst h a) (suc h) ∷ (files′ ++ rest′))
       moved-disk =
           subst (λ z. Each (OnDisk c) (section (parentFirst h a) (suc h) ∷ z)) moved-pieces
-          (merge-on-disk c h a v (p .order) (tops .0) (tops .1) (filePieces (w .files) ++ r) od before)
+          (merge-on-disk c h a v (p .order) (parts .lower) (parts .upper) (otherPieces w r) (parts .others)
+          (parts .covers))
 
   merge-into-free : IntoFree (w .files) (merge (section a h) (section v h) r w .copies)
   unfolding merge
@@ -106,7 +97,7 @@ module _ (c h a v : ℕ) (w : Layout) (r : List Section) (wh : Whole c w)
     into = among;
     each =
         each-imp (λ x q. (off-among (x .source) (q .0), in-among (x .target) (q .1)))
-        (merge-apart c h a v (p .order) (tops .0) (tops .1) (filePieces (w .files) ++ r) od before);
+        (merge-apart c h a v w r parts);
     vacant = empty;
   }
     where
@@ -125,7 +116,7 @@ module _ (c h a v : ℕ) (w : Layout) (r : List Section) (wh : Whole c w)
           let q = and-true (leb v x) (ltb x (v + 2 ^ h)) e in
           omega (
             arith,
-            before x,
+            parts .covers x,
             inRange-le-one x 0 c,
             sum-append (holdsBlock x) (filePieces (w .files)) r,
             inRange-inside x v (2 ^ h) (leb-true v x (q .0)) (ltb-true x (v + 2 ^ h) (q .1)),
@@ -175,12 +166,13 @@ module _ (c h a v : ℕ) (w : Layout) (r : List Section) (wh : Whole c w)
       p .sum (λ _. 1),
       sum-map (λ _. 1) (movedInto (section (buddyFirst h a) h) (section v h)) r,
     );
-    few = copies-le h (buddyFirst h a) v;
-    reach = merge-reach c h a v (p .order) (tops .0) (tops .1) (filePieces (w .files) ++ r) od before;
-    rise = merge-copies-rise c h a v (p .order) (tops .0) (tops .1) (filePieces (w .files) ++ r) od before;
+    few = copies-le (isHeld (w .files)) h (buddyFirst h a) v;
+    reach = merge-reach c h a v w r parts;
+    rise = merge-copies-rise c h a v w r parts;
+    held = merge-sources-held c h a v w r parts;
+    filled = merge-targets-held c h a v w r parts;
     apart = merge-into-free;
-    files =
-        merge-files c h a v (p .order) (tops .0) (tops .1) (filePieces (w .files) ++ r) od before (w .files) r refl;
+    files = merge-files c h a v w r parts;
   }
 
 -- what a merge keeps, whichever two free sections of one height it takes

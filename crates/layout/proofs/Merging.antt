@@ -27,7 +27,7 @@ use Rattle.section.specs.Sections.{Apart, Within, buddyFirst, endOf, lengthOf, 
 use Rattle.section.specs.declared.Section.{Section}
 
 -- a section inside another is no higher
-within-height : (h b : ℕ) (s : Section) → Within (s .first) (lengthOf s) b (2 ^ h) → s .height .value ≤ h
+pub within-height : (h b : ℕ) (s : Section) → Within (s .first) (lengthOf s) b (2 ^ h) → s .height .value ≤ h
 within-height h b s w = go (below-or-not h (s .height .value))
   where
     go : (h < s .height .value) ⊎ (s .height .value ≤ h) → s .height .value ≤ h

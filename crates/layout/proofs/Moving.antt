@@ -1,12 +1,13 @@
 -- What a move keeps, stated once: all that lies inside the section of height h at b goes to the same distance
 -- inside the one at v, which no piece meets. Independent of how the two were chosen. Assumes nothing.
+use mathlib.Core.Bool.{false}
 use mathlib.Core.List.{List, map}
 use mathlib.Core.Logic.{inl, inr}
 use mathlib.Core.Path.{_∙_, _≡_, ap, sym}
 use Prim.Native.Nat.{_+_, _<_, _^_, _≤_, ℕ}
 use native.Mathlib.Omega.{arith}
 use Rattle.layout.proofs.Lists.{each-imp, sum-cong, sum-map}
-use Rattle.layout.proofs.Ranges.{inRange-carried}
+use Rattle.layout.proofs.Ranges.{inRange-above, inRange-below, inRange-carried}
 use Rattle.layout.proofs.Swaps.{SameOrApart, left, right, same, swap, swap-disk, swap-first, swap-off}
 use Rattle.layout.proofs.Swaps.{swap-second, swap-swap}
 use Rattle.layout.specs.Layout.{holdsBlock, inRange}
@@ -14,8 +15,16 @@ use Rattle.layout.specs.Lists.{Each, sumOf}
 use Rattle.section.proofs.Answers.{inside-iff}
 use Rattle.section.proofs.Moves.{moved-apart-stays, moved-height, moved-inside}
 use Rattle.section.proofs.Nested.{Placed, after, before, inside}
-use Rattle.section.specs.Sections.{Apart, lengthOf, movedInto, section}
+use Rattle.section.specs.Sections.{Apart, endOf, isInside, lengthOf, movedInto, section}
 use Rattle.section.specs.declared.Section.{Section}
+
+-- a section that is placed against b and not inside it holds no block of b
+pub placed-off : (s b : Section) → Placed (s .first) (lengthOf s) (b .first) (lengthOf b) → isInside s b ≡ false
+    → (x : ℕ) → b .first ≤ x → x < endOf b → holdsBlock x s ≡ 0
+placed-off s b (inside p q) e x lo hi =
+    let y = inside-iff s b .1 (p, q) in absurd (let z : _≡_ {A = ℕ} 0 1 = cc in omega arith)
+placed-off s b (before q) e x lo hi = inRange-above x (s .first) (lengthOf s) (omega arith)
+placed-off s b (after q) e x lo hi = inRange-below x (s .first) (lengthOf s) (omega arith)
 
 module _ (h b v : ℕ) where
   -- the move, on one section

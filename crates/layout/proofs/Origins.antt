@@ -1,5 +1,5 @@
 -- Where the contents of a block come from: a list of block copies, whatever it is, renames blocks. Assumes nothing.
-use mathlib.Core.Bool.{cond}
+use mathlib.Core.Bool.{Bool, cond, false, true}
 use mathlib.Core.List.{List, [], _++_, _∷_}
 use mathlib.Core.Logic.{inl, inr}
 use mathlib.Core.Path.{_∙_, _≡_, ap, refl, sym}
@@ -7,9 +7,10 @@ use Prim.Native.Nat.{_+_, _<_, suc, zero, ℕ}
 use native.Mathlib.Omega.{arith}
 use lib.Dec.{eqb}
 use borrow.Author.Tests.{eq-eqb, ne-eqb}
+use Rattle.layout.proofs.CopiesFrom.{each-from, from-failed, from-passed}
 use Rattle.layout.proofs.Lists.{each-imp}
 use Rattle.layout.specs.Lists.{Each, done, more}
-use Rattle.layout.specs.Removing.{Copy, copyRun}
+use Rattle.layout.specs.Removing.{Copy, copiesFrom, copyRun}
 use Rattle.section.specs.Sections.{Apart}
 
 -- the block of before the copies whose bytes stand in block x after them
@@ -57,10 +58,13 @@ copyRun-in-run b u (suc n) =
       to = omega (arith, w .to);
     }
 
-pub origin-copyRun : (n b u : ℕ) → Apart b n u n → (i : ℕ) → i < n → origin (copyRun b u n) (u + i) ≡ b + i
+-- a block that is copied is found at its place in the run
+pub origin-from : (p : ℕ → Bool) (n b u : ℕ) → Apart b n u n → (i : ℕ) → i < n → p (b + i) ≡ true
+    → origin (copiesFrom p (copyRun b u n)) (u + i) ≡ b + i
 unfolding origin copyRun
-origin-copyRun zero b u o i q = absurd (omega arith)
-origin-copyRun (suc n) b u o i q = go i q (λ j z. origin-copyRun n (suc b) (suc u) (shift o) j z)
+origin-from p zero b u o i q t = absurd (omega arith)
+origin-from p (suc n) b u o i q t =
+    go (p b) refl i q t (λ j z y. origin-from p n (suc b) (suc u) (shift o) j z y)
   where
     shift : Apart b (suc n) u (suc n) → Apart (suc b) n (suc u) n
     shift (inl q) = inl (omega arith)
@@ -76,16 +80,26 @@ origin-copyRun (suc n) b u o i q = go i q (λ j z. origin-copyRun n (suc b) (suc
     s+ : (x i : ℕ) → x + suc i ≡ suc x + i
     s+ x i = omega arith
 
-    first : origin (copyRun (suc b) (suc u) n) u ≡ u
-    first = origin-off u (each-imp (λ c w z. omega (arith, w .to)) (copyRun-in-run (suc b) (suc u) n))
+    first : origin (copiesFrom p (copyRun (suc b) (suc u) n)) u ≡ u
+    first =
+        origin-off u (each-imp (λ c w z. omega (arith, w .0 .to)) (each-from p (copyRun-in-run (suc b) (suc u) n)))
 
-    go : (i : ℕ) → i < suc n → ((j : ℕ) → j < n → origin (copyRun (suc b) (suc u) n) (suc u + j) ≡ suc b + j)
-        → cond (eqb (origin (copyRun (suc b) (suc u) n) (u + i)) u) b (origin (copyRun (suc b) (suc u) n) (u + i))
-        ≡ b + i
-    go zero q ih =
-        ap (λ y. cond (eqb y u) b y) (ap (origin (copyRun (suc b) (suc u) n)) (z+ u) ∙ first)
-        ∙ (ap (λ t. cond t b u) (eq-eqb u u refl) ∙ sym (z+ b))
-    go (suc i) q ih =
-        ap (λ y. cond (eqb y u) b y)
-        (ap (origin (copyRun (suc b) (suc u) n)) (s+ u i) ∙ (ih i (omega arith) ∙ sym (s+ b i)))
-        ∙ ap (λ t. cond t b (b + suc i)) (ne-eqb (b + suc i) u (clash o (suc i) q))
+    go : (s : Bool) → p b ≡ s → (i : ℕ) → i < suc n → p (b + i) ≡ true
+        → ((j : ℕ) → j < n → p (suc b + j) ≡ true
+        → origin (copiesFrom p (copyRun (suc b) (suc u) n)) (suc u + j) ≡ suc b + j)
+        → origin (copiesFrom p ((record { source = b; target = u }) ∷ copyRun (suc b) (suc u) n)) (u + i) ≡ b + i
+    go true e zero q t ih =
+        ap (λ l. origin l (u + 0)) (from-passed p _ (copyRun (suc b) (suc u) n) e)
+        ∙ (ap (λ y. cond (eqb y u) b y) (ap (origin (copiesFrom p (copyRun (suc b) (suc u) n))) (z+ u) ∙ first)
+        ∙ (ap (λ t. cond t b u) (eq-eqb u u refl) ∙ sym (z+ b)))
+    go true e (suc i) q t ih =
+        ap (λ l. origin l (u + suc i)) (from-passed p _ (copyRun (suc b) (suc u) n) e)
+        ∙ (ap (λ y. cond (eqb y u) b y)
+        (ap (origin (copiesFrom p (copyRun (suc b) (suc u) n))) (s+ u i)
+        ∙ (ih i (omega arith) (ap p (sym (s+ b i)) ∙ t) ∙ sym (s+ b i)))
+        ∙ ap (λ t. cond t b (b + suc i)) (ne-eqb (b + suc i) u (clash o (suc i) q)))
+    go false e zero q t ih = let f = ap p (z+ b) in absurd (let z : _≡_ {A = ℕ} 0 1 = cc in omega arith)
+    go false e (suc i) q t ih =
+        ap (λ l. origin l (u + suc i)) (from-failed p _ (copyRun (suc b) (suc u) n) e)
+        ∙ (ap (origin (copiesFrom p (copyRun (suc b) (suc u) n))) (s+ u i)
+        ∙ (ih i (omega arith) (ap p (sym (s+ b i)) ∙ t) ∙ sym (s+ b i)))

@@ -1,14 +1,14 @@
 -- Removing: the file's pieces become free, and while a height has two free pieces the lowest such height is merged.
 -- A removal is the list of its merges, each with its block copies and the layout that it leaves. Definitions only.
-use mathlib.Core.Bool.{true, false, cond}
+use mathlib.Core.Bool.{Bool, true, false, cond}
 use mathlib.Core.List.{List, [], _∷_, _++_, map}
 use Prim.Native.Nat.{ℕ, zero, suc, _+_}
-use lib.Dec.{eqb}
+use lib.Dec.{eqb, ltb}
 use lib.ListN.{length}
 use Rattle.section.specs.declared.Section.{Section}
 use Rattle.section.specs.Sections.{lengthOf, buddyOf, parentOf, movedInto}
-use Rattle.layout.specs.Lists.{insertBy, sortBy}
-use Rattle.layout.specs.Layout.{File, Layout, byFirst}
+use Rattle.layout.specs.Lists.{insertBy, sortBy, sumOf}
+use Rattle.layout.specs.Layout.{File, Layout, byFirst, filePieces, holdsBlock}
 use Rattle.layout.specs.Adding.{Taken, taken, nothing, takeOfHeight}
 
 -- ---- block copies
@@ -22,6 +22,16 @@ pub record Copy : Type 0 where
 unfoldable pub copyRun : ℕ → ℕ → ℕ → List Copy
 copyRun b u zero = []
 copyRun b u (suc n) = (record { source = b; target = u }) ∷ copyRun (suc b) (suc u) n
+
+-- those copies whose source passes the test, in order
+unfoldable pub copiesFrom : (ℕ → Bool) → List Copy → List Copy
+copiesFrom p [] = []
+copiesFrom p (c ∷ l) =
+    elim (p (c .source)) as (λ _. List Copy) [ true ↦ c ∷ copiesFrom p l | false ↦ copiesFrom p l ]
+
+-- the block x is in a piece of a file
+abbrev pub isHeld : List File → ℕ → Bool
+isHeld fs x = ltb 0 (sumOf (holdsBlock x) (filePieces fs))
 
 -- ---- one merge
 
@@ -42,10 +52,11 @@ secondOf h nothing = fewer
 unfoldable pub mergePair : ℕ → List Section → MergePair
 mergePair h free = secondOf h (takeOfHeight h free)
 
--- step 2: all blocks of l's buddy copied to u in order, none if u is the buddy
-abbrev pub mergeCopies : Section → Section → List Copy
-mergeCopies l u =
-    cond (eqb (buddyOf l .first) (u .first)) [] (copyRun (buddyOf l .first) (u .first) (lengthOf l))
+-- step 2: the blocks of l's buddy that files hold copied to u in order, none if u is the buddy
+abbrev pub mergeCopies : List File → Section → Section → List Copy
+mergeCopies fs l u =
+    cond (eqb (buddyOf l .first) (u .first)) []
+    (copiesFrom (isHeld fs) (copyRun (buddyOf l .first) (u .first) (lengthOf l)))
 
 -- a file when all that lies inside b has moved to the same distance inside u
 abbrev pub movedFile : Section → Section → File → File
@@ -61,7 +72,7 @@ unfoldable pub merge : Section → Section → List Section → Layout → Merge
 merge l u others w =
     let moved : Section → Section = movedInto (buddyOf l) u in
     record {
-      copies = mergeCopies l u;
+      copies = mergeCopies (w .files) l u;
       after = record {
         blocks = w .blocks;
         files = map (movedFile (buddyOf l) u) (w .files);

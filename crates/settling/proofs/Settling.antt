@@ -2,25 +2,27 @@
 use mathlib.Core.Bool.{false, true}
 use mathlib.Core.List.{List, [], _++_, _∷_, append-assoc, append-nil}
 use mathlib.Core.Path.{_∙_, _≡_, ap, refl, subst, sym}
-use Prim.Native.Nat.{_*_, _+_, _^_, _≤_, suc, zero, ℕ}
+use Prim.Native.Nat.{_*_, _+_, _≤_, suc, zero, ℕ}
 use native.Mathlib.Nat.{mul-le-mul-left, mul-suc}
 use native.Mathlib.Omega.{arith}
 use lib.ListN.{length, length-append}
 use Rattle.blocks.specs.DiskCode.{Copied, MergeFits}
+use Rattle.blocks.proofs.DiskCopies.{run-append}
+use Rattle.blocks.proofs.DiskFits.{merge-on-disk}
+use Rattle.free_pieces.specs.Gaps.{PairFits, pairCopies}
 use Rattle.settling.specs.Settling.{CanSettle, Settles, mergesOf}
-use Rattle.layout.proofs.Allocating.{height-lt}
 use Rattle.layout.proofs.LoopTurns.{layout-after-append}
 use Rattle.layout.proofs.MergeKeeps.{Whole}
 use Rattle.layout.proofs.Swaps.{same}
 use Rattle.layout.specs.Layout.{Layout}
 use Rattle.layout.specs.Lists.{none}
-use Rattle.layout.specs.Removing.{Copy, Merge, copiesOf, due, layoutAfter, merge, mergeAll, mergeCopies, nextMerge}
+use Rattle.layout.specs.Removing.{Merge, copiesOf, due, layoutAfter, merge, mergeAll, nextMerge}
 use Rattle.layout.specs.Removing.{settled}
-use Rattle.manager.specs.Disk.{block, runCopies, storeBlock}
+use Rattle.manager.specs.Disk.{runCopies}
 use Rattle.section.proofs.Buddies.{upper}
 use Rattle.section.specs.Limits.{blockSize, greatestDisk, heightCount}
 use Rattle.table.proofs.NextPair.{merge-due, merge-settled}
-use Rattle.table.proofs.ReadyPairs.{Fits, due-fits, merge-ready}
+use Rattle.table.proofs.ReadyPairs.{Fits, due-fits, merge-countable, merge-ready}
 use Rattle.table.proofs.TableSteps.{table-merged-whole}
 use Rattle.free_pieces.specs.Free.{Pairs, freeOf, freePlaces, lowestPair}
 use Rattle.table.specs.Merges.{Merged, Ready}
@@ -33,11 +35,6 @@ unfolding copiesOf
 copies-append [] b = refl
 copies-append (m ∷ a) b =
     ap (λ z. m .copies ++ z) (copies-append a b) ∙ sym (append-assoc (m .copies) (copiesOf a) (copiesOf b))
-
-run-append : (a b : List Copy) (d : List ℕ) → runCopies d (a ++ b) ≡ runCopies (runCopies d a) b
-unfolding runCopies
-run-append [] b d = refl
-run-append (c ∷ a) b d = run-append a b (storeBlock d (c .target) (block d (c .source)))
 
 copies-one : (m : Merge) → copiesOf (m ∷ []) ≡ m .copies
 unfolding copiesOf
@@ -107,20 +104,17 @@ module _ (t₀ : Table) (d₀ : List ℕ) (t : Table) (d : List ℕ) (copied : �
 
   pub settling-copies : MergeFits (length d) (p .lower) (p .upper)
   settling-copies =
-      let same = ap (λ n. 2 ^ n) (fits .same) in
-      record {
-        height = omega (arith, height-lt (t .blocks) heightCount (omega (arith, g .small)) (p .lower) (fits .lower));
-        buddy = omega (arith, g .long, mul-le-mul-left blockSize (fits .buddy .within));
-        upper = omega (arith, g .long, mul-le-mul-left blockSize (fits .upper .within), same);
-        disk = omega (arith, g .long, mul-le-mul-left blockSize (g .small));
-      }
+      subst (λ n. MergeFits n (p .lower) (p .upper)) (sym (g .long))
+      (merge-on-disk (t .blocks) (p .lower) (p .upper) (g .small) (fits .buddy) (fits .upper) (fits .same))
+
+  pub settling-countable : PairFits p
+  settling-countable = merge-countable (t .blocks) (g .small) t p (g .whole) (g .sized) ps f
 
   -- and what holds after it
-  pub settling-more : (d′ : List ℕ) (k : ℕ) (r : Table)
-      → Copied d d′ (mergeCopies (p .lower) (p .upper)) greatestDisk k → Merged t p r
+  pub settling-more : (d′ : List ℕ) (k : ℕ) (r : Table) → Copied d d′ (pairCopies p) greatestDisk k → Merged t p r
       → Settling t₀ d₀ r d′ (copied + k)
   unfolding merge
-  settling-more d′ k r c m =
+  settling-more d′ k r pc m =
       record {
         made = g .made ++ (now ∷ []);
         all = append-assoc (g .made) (now ∷ []) (mergesOf r) ∙ (ap (λ z. g .made ++ z) rest ∙ g .all);
@@ -130,14 +124,14 @@ module _ (t₀ : Table) (d₀ : List ℕ) (t : Table) (d : List ℕ) (copied : �
             ∙ (ap (λ w. layoutAfter w (now ∷ [])) (sym (g .layout)) ∙ last));
         disk =
             c .disk
-            ∙ (ap (λ z. runCopies z (mergeCopies (p .lower) (p .upper))) (g .disk)
-            ∙ (sym (run-append (copiesOf (g .made)) (mergeCopies (p .lower) (p .upper)) d₀)
+            ∙ (ap (λ z. runCopies z (now .copies)) (g .disk)
+            ∙ (sym (run-append (copiesOf (g .made)) (now .copies) d₀)
             ∙ ap (runCopies d₀) (sym copies)));
         count = omega (
           arith,
           g .count,
           c .count,
-          length-append (copiesOf (g .made)) (mergeCopies (p .lower) (p .upper)),
+          length-append (copiesOf (g .made)) (now .copies),
           ap length copies,
         );
         whole = subst (λ b. Whole b (layoutOf r)) (sym (m .blocks)) (table-merged-whole (t .blocks) t p r fits m);
@@ -160,6 +154,10 @@ module _ (t₀ : Table) (d₀ : List ℕ) (t : Table) (d : List ℕ) (copied : �
       now : Merge
       now = merge (p .lower) (p .upper) (freeOf (p .others)) (layoutOf t)
 
+      -- the blocks between the free pieces are those that files hold
+      c : Copied d d′ (now .copies) greatestDisk k
+      c = subst (λ x. Copied d d′ x greatestDisk k) (sym (fits .copies)) pc
+
       fewer-left : t .free .count ≡ suc (r .free .count)
       fewer-left = omega (arith, m .free, ps .less f)
 
@@ -172,7 +170,7 @@ module _ (t₀ : Table) (d₀ : List ℕ) (t : Table) (d : List ℕ) (copied : �
       last : layoutAfter (layoutOf t) (now ∷ []) ≡ now .after
       last = last-one (layoutOf t) now
 
-      copies : copiesOf (g .made ++ (now ∷ [])) ≡ copiesOf (g .made) ++ mergeCopies (p .lower) (p .upper)
+      copies : copiesOf (g .made ++ (now ∷ [])) ≡ copiesOf (g .made) ++ now .copies
       copies = copies-append (g .made) (now ∷ []) ∙ ap (λ z. copiesOf (g .made) ++ z) (copies-one now)
 
 -- no height has two any more

@@ -1,4 +1,5 @@
-// Merging to the end: merges until no height has two free pieces, with each merge's blocks copied at its step and counted.
+// Merging to the end: merges until no height has two free pieces, with the blocks that files hold copied at the step of
+// their merge and counted.
 ghost use lib.ListN.{length};
 ghost use Rattle.settling.specs.Settling.{CanSettle, Settles};
 use table::Table;
@@ -21,10 +22,10 @@ pub fn settle(disk: &mut [u8], table: Table) -> Settled
     let free = t.free;
     let mut p = free.lowest_pair();
     'merges: while p.found {
+        let made = blocks::copy_merge(disk, p);
+        copied += made;
         let lower = p.lower;
         let upper = p.upper;
-        let made = blocks::copy_merge(disk, lower, upper);
-        copied += made;
         let buddy = lower.buddy();
         let m = t.count;
         let mut i: usize = 0;

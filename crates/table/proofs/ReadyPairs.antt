@@ -1,32 +1,31 @@
 -- In a whole layout on a disk of at most the greatest C all that a merge asks for is there. Assumes nothing.
 use mathlib.Core.Bool.{true}
-use mathlib.Core.List.{List, [], _++_, _∷_}
-use mathlib.Core.Path.{_≡_, ap, subst}
+use mathlib.Core.List.{List, [], _∷_}
+use mathlib.Core.Path.{_≡_, subst, sym}
 use Prim.Native.Nat.{_≤_, ℕ}
 use native.Mathlib.Omega.{arith}
 use lib.ListN.{take}
 use lib.Pow.{pow-pos}
 use Rattle.layout.proofs.Allocating.{height-lt}
-use Rattle.layout.proofs.Cover.{Covers}
-use Rattle.layout.proofs.Lists.{each-append, each-imp, each-left, each-right, each-unmap, sum-append}
+use Rattle.layout.proofs.Lists.{each-imp, each-left, each-right, each-unmap}
 use Rattle.layout.proofs.MergeKeeps.{MergeKeeps, Whole}
 use Rattle.layout.proofs.MergePairs.{Mergeable}
+use Rattle.layout.proofs.MergeParts.{merge-parts}
 use Rattle.layout.proofs.MergeStep.{merge-keeps}
-use Rattle.layout.proofs.Merging.{buddy-on-disk}
 use Rattle.layout.proofs.MovedPieces.{section-eta}
-use Rattle.layout.proofs.Ranges.{within}
-use Rattle.layout.specs.Layout.{File, Layout, OnDisk, filePieces, holdsBlock}
+use Rattle.layout.specs.Layout.{File, Layout, OnDisk, filePieces}
 use Rattle.layout.specs.Lists.{Each, done, more}
-use Rattle.layout.specs.Removing.{merge}
-use Rattle.section.proofs.Buddies.{buddy-aligned}
+use Rattle.layout.specs.Removing.{merge, mergeCopies}
 use Rattle.section.specs.Limits.{greatestDisk, heightCount}
-use Rattle.section.specs.Sections.{Addressable, buddyOf, section}
+use Rattle.section.specs.Sections.{Addressable, buddyOf}
 use Rattle.section.specs.declared.Section.{Section}
-use Rattle.table.proofs.NextPair.{DueOf, due-is, pair-found}
+use Rattle.free_pieces.proofs.HeldGaps.{held-between, others-in-order}
 use Rattle.free_pieces.specs.Free.{Pairs, freeOf, lowestPair}
+use Rattle.free_pieces.specs.Gaps.{InOrder, PairFits, freeCopies}
+use Rattle.free_pieces.specs.declared.Pair.{Pair}
+use Rattle.table.proofs.NextPair.{DueOf, due-is, pair-found}
 use Rattle.table.specs.Merges.{Ready}
 use Rattle.table.specs.Tables.{Sized, fileOf, filesOf, layoutOf}
-use Rattle.free_pieces.specs.declared.Pair.{Pair}
 use Rattle.table.specs.declared.Table.{Table}
 
 -- a section of such a disk is served
@@ -49,41 +48,24 @@ pub record Fits (c : ℕ) (w : Layout) (l u : Section) (r : List Section) : Type
   pub buddy : OnDisk c (buddyOf l)
   pub same : u .height .value ≡ l .height .value
   pub others : Each (OnDisk c) r
+  pub order : InOrder r
+  pub copies : mergeCopies (w .files) l u ≡ freeCopies l u r
   pub keeps : MergeKeeps c (l .height .value) w (merge l u r w)
 
-module _ (c : ℕ) (w : Layout) (l u : Section) (r : List Section) (wh : Whole c w)
-    (p : Mergeable (l .height .value) (w .free) l u r) where
-  eta : u ≡ section (u .first) (l .height .value)
-  eta = section-eta u (l .height .value) (p .high)
-
-  tops : OnDisk c l × OnDisk c u × Each (OnDisk c) r
-  tops = p .each c (each-right (filePieces (w .files)) (w .free) (wh .disk))
-
-  covered : Covers c (l ∷ section (u .first) (l .height .value) ∷ (filePieces (w .files) ++ r))
-  covered x = omega (
-    arith,
-    wh .covers x,
-    sum-append (holdsBlock x) (filePieces (w .files)) (w .free),
-    sum-append (holdsBlock x) (filePieces (w .files)) r,
-    p .sum (holdsBlock x),
-    ap (holdsBlock x) eta,
-  )
-
-  pub pair-fits : Fits c w l u r
-  pair-fits = record {
-    lower = tops .0;
-    upper = tops .1;
-    buddy = record {
-      aligned = buddy-aligned (l .height .value) (l .first) (tops .0 .aligned);
-      within =
-          buddy-on-disk c (l .height .value) (l .first) (u .first) (p .order) (tops .0)
-          (subst (OnDisk c) eta (tops .1)) (filePieces (w .files) ++ r)
-          (each-append (each-left (filePieces (w .files)) (w .free) (wh .disk)) (tops .2)) covered;
-    };
-    same = p .high;
-    others = tops .2;
-    keeps = merge-keeps c (l .height .value) w l u r wh p;
-  }
+pub pair-fits : (c : ℕ) (w : Layout) (l u : Section) (r : List Section) → Whole c w
+    → Mergeable (l .height .value) (w .free) l u r → Fits c w l u r
+pair-fits c w l u r wh p =
+    let q = merge-parts c w l u r wh p in
+    record {
+      lower = q .lower;
+      upper = subst (OnDisk c) (sym (section-eta u (l .height .value) (p .high))) (q .upper);
+      buddy = q .buddy;
+      same = p .high;
+      others = q .free;
+      order = others-in-order c w l u r q (p .rising);
+      copies = held-between c w l u r q (p .rising);
+      keeps = merge-keeps c (l .height .value) w l u r wh p;
+    }
 
 module _ (c : ℕ) (top : c ≤ greatestDisk) (t : Table) (p : Pair) (wh : Whole c (layoutOf t)) (sized : Sized t)
     (ps : Pairs (t .free .count) (lowestPair heightCount 0 (freeOf (t .free))) p) (f : p .found ≡ true) where
@@ -107,4 +89,15 @@ module _ (c : ℕ) (top : c ≤ greatestDisk) (t : Table) (p : Pair) (wh : Whole
         (each-file (filesOf t) (each-left (filePieces (filesOf t)) (freeOf (t .free)) (wh .disk))));
     others = each-imp (served c top) (due-fits .others);
     few = omega (arith, ps .less f, sized .free);
+  }
+
+  -- what counting its copies asks for
+  pub merge-countable : PairFits p
+  merge-countable = record {
+    lower = merge-ready .lower;
+    buddy = merge-ready .buddy;
+    few = omega (arith, merge-ready .few);
+    exact = ps .exact;
+    others = merge-ready .others;
+    order = due-fits .order;
   }

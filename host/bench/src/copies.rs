@@ -1,9 +1,9 @@
 //! Block copies: a removal that copies as many blocks as it may, beside copies of the same blocks and nothing else.
 
 use crate::builds::Build;
-use crate::sides::{make, Call, Lent, Side};
+use crate::sides::Side;
 use crate::spread::Spread;
-use crate::timing::{interleaved, Beside};
+use crate::timing::{interleaved, time_removal, Beside};
 use std::hint::black_box;
 use std::time::Instant;
 use twin::{Version, BLOCK};
@@ -71,11 +71,7 @@ impl Chain {
 
     /// The nanoseconds of the removal.
     fn time_removal(&mut self, side: Side) -> f64 {
-        let mut cat = self.cat.clone();
-        let mut lent = Lent { disk: self.disk.get(), content: &[], out: &mut [], id: 1 };
-        let clock = Instant::now();
-        let answer = black_box(make(side, Call::Remove, black_box(&mut cat), &mut lent));
-        let time = clock.elapsed().as_nanos() as f64;
+        let (time, answer) = time_removal(side, &self.cat, self.disk.get());
         assert_eq!(answer, Ok(self.copies.len() as u64));
         time
     }

@@ -4,8 +4,10 @@
 
 mod agreement;
 mod arguments;
+mod beside;
 mod builds;
 mod copies;
+mod half_free;
 #[allow(unsafe_code)]
 mod library;
 mod markdown;
@@ -27,8 +29,8 @@ use sides::{Call, Side};
 use std::path::Path;
 use std::process::ExitCode;
 
-/// Times every call on every disk, one disk after another, and the block copies. A build takes part where it has the
-/// version.
+/// Times every call on every disk, one disk after another, the block copies, and removals that move a buddy of which
+/// half is free. A build takes part where it has the version.
 fn measure(builds: Vec<&'static Build>, rounds: usize) -> Measured {
     let that_serve = |version| builds.iter().copied().filter(|build| build.serves(version)).collect::<Vec<_>>();
     let (mut scenes, mut rows) = (Vec::new(), Vec::new());
@@ -46,7 +48,9 @@ fn measure(builds: Vec<&'static Build>, rounds: usize) -> Measured {
     let places = [(7, 0), (7, 16), (10, 0), (10, 16)];
     let there = that_serve(copies::VERSION);
     let copies = places.map(|(top, past)| copies::time_copies(top, past, &there, rounds)).into();
-    Measured { rounds, builds, scenes, rows, copies }
+    let there = that_serve(half_free::VERSION);
+    let half_free = [4096, 1 << 20].map(|blocks| half_free::time_half_free(blocks, &there, rounds)).into();
+    Measured { rounds, builds, scenes, rows, copies, half_free }
 }
 
 /// Writes the tables and the plot to the documents. It is to be run where the folder `docs` is.

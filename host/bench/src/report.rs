@@ -1,12 +1,13 @@
 //! The tables of all that was measured.
 
+use crate::beside::{beside_part, BesideLine};
 use crate::builds::Build;
 use crate::copies::{self, Copies};
+use crate::half_free::{self, HalfFree};
 use crate::markdown::{ratio, table, tenths, thousands};
 use crate::scene::Facts;
 use crate::shape::Shape;
-use crate::timing::{self, Beside, Row};
-use twin::Version;
+use crate::timing::{self, Row};
 
 /// All that was measured.
 pub struct Measured {
@@ -16,6 +17,7 @@ pub struct Measured {
     pub scenes: Vec<Facts>,
     pub rows: Vec<Row>,
     pub copies: Vec<Copies>,
+    pub half_free: Vec<HalfFree>,
 }
 
 /// A disk in a few words.
@@ -33,39 +35,6 @@ fn scene_text(facts: &Facts) -> String {
 fn call_row(row: &Row) -> Vec<String> {
     let [proved, twin, model, _] = row.times.map(|time| thousands(time.median));
     vec![row.call.name().into(), ratio(row.to_twin), ratio(row.to_model), ratio(row.to_itself), proved, twin, model]
-}
-
-/// The first cells of a line, and the builds beside that have a place in it.
-type BesideLine<'a> = (Vec<String>, &'a [Beside]);
-
-/// The proved calls over those of other builds, and which builds are left out since they do not have the version. There
-/// is nothing to tell in a run without other builds.
-fn beside_part(
-    builds: &[&Build],
-    version: Version,
-    first_cells: &[&str],
-    lines: &[BesideLine],
-    nanoseconds: fn(f64) -> String,
-) -> String {
-    let there: Vec<&Build> = lines.first().map_or(vec![], |(_, besides)| besides.iter().map(|b| b.build).collect());
-    let mut text = String::new();
-    if !there.is_empty() {
-        let ratios = there.iter().map(|build| format!("proved / {}", build.name));
-        let times = there.iter().map(|build| format!("{} ns", build.name));
-        let names: Vec<String> = ratios.chain(times).collect();
-        let header: Vec<&str> = first_cells.iter().copied().chain(names.iter().map(String::as_str)).collect();
-        let row = |(cells, besides): &BesideLine| {
-            let ratios = besides.iter().map(|beside| ratio(beside.from_proved));
-            let times = besides.iter().map(|beside| nanoseconds(beside.time.median));
-            cells.iter().cloned().chain(ratios).chain(times).collect()
-        };
-        let rows: Vec<Vec<String>> = lines.iter().map(row).collect();
-        text = format!("\nBeside other builds:\n\n{}", table(&header, &rows));
-    }
-    for build in builds.iter().filter(|build| !there.contains(build)) {
-        text += &format!("\nThe build `{}` refuses version {} and is left out here.\n", build.name, version.number);
-    }
-    text
 }
 
 /// The tables of one disk's calls.
@@ -112,6 +81,33 @@ fn copies_cells(c: &Copies) -> Vec<String> {
     vec![format!("C = {blocks}"), format!("{} bytes", c.past), copied]
 }
 
+/// The tables of removals that move a buddy of which half is free.
+fn half_free_table(builds: &[&Build], removals: &[HalfFree]) -> String {
+    let header = ["disk", "blocks of the buddy", "blocks copied", "proved / twin", "proved ns", "twin ns", "second ns"];
+    let row = |removal: &HalfFree| {
+        let times = removal.times.map(|time| thousands(time.median));
+        [half_free_cells(removal), vec![ratio(removal.to_twin)], times.into()].concat()
+    };
+    let rows: Vec<_> = removals.iter().map(row).collect();
+    let there = removals.first().map_or(&[][..], |removal| &removal.besides);
+    let copied_by = there.iter().map(|beside| format!("copied by {}", beside.build.name));
+    let first_cells: Vec<String> = header[..3].iter().map(|name| name.to_string()).chain(copied_by).collect();
+    let cells = |removal: &HalfFree| {
+        let copied_by = removal.copied_by.iter().map(|&copied| thousands(copied as f64));
+        half_free_cells(removal).into_iter().chain(copied_by).collect()
+    };
+    let lines: Vec<BesideLine> = removals.iter().map(|removal| (cells(removal), removal.besides.as_slice())).collect();
+    let first_cells: Vec<&str> = first_cells.iter().map(String::as_str).collect();
+    let beside = beside_part(builds, half_free::VERSION, &first_cells, &lines, thousands);
+    format!("### A removal that moves a buddy of which half is free\n\n{}{beside}", table(&header, &rows))
+}
+
+/// The disk, the blocks of the buddy, and how many of them are copied.
+fn half_free_cells(removal: &HalfFree) -> Vec<String> {
+    let [blocks, buddy, copied] = [removal.blocks, removal.buddy, removal.copied].map(|n| thousands(n as f64));
+    vec![format!("C = {blocks}"), buddy, copied]
+}
+
 /// How far apart two series of the same code were.
 fn noise(rows: &[Row]) -> String {
     let off = rows.iter().map(|row| (row.to_itself.median - 1.0).abs()).fold(0.0, f64::max);
@@ -140,6 +136,7 @@ fn effort(rounds: usize) -> String {
 pub fn text(measured: &Measured) -> String {
     let mut parts: Vec<String> = (0..measured.scenes.len()).map(|scene| scene_table(measured, scene)).collect();
     parts.push(copies_table(&measured.builds, &measured.copies));
+    parts.push(half_free_table(&measured.builds, &measured.half_free));
     parts.push(effort(measured.rounds) + &noise(&measured.rows));
     parts.join("\n")
 }

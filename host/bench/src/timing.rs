@@ -88,6 +88,15 @@ impl<'a> Batch<'a> {
     }
 }
 
+/// The nanoseconds of one removal of the file with id 1, and its answer.
+pub fn time_removal(side: Side, cat: &[u8], disk: &mut [u8]) -> (f64, Result<u64, u8>) {
+    let mut cat = cat.to_vec();
+    let mut lent = Lent { disk, content: &[], out: &mut [], id: 1 };
+    let clock = Instant::now();
+    let answer = black_box(make(side, Call::Remove, black_box(&mut cat), &mut lent));
+    (clock.elapsed().as_nanos() as f64, answer)
+}
+
 /// The times of another build.
 pub struct Beside {
     pub build: &'static Build,

@@ -87,11 +87,11 @@ mod tests {
 
     #[test]
     fn a_line_is_read_as_it_was_written() {
-        let line = Line { date: "2026-01-31T23:59:00Z".to_string(), id: 5, blocks: 3, copied: 2, limit: 2 };
-        assert_eq!(line.text(), "2026-01-31T23:59:00Z id 5 blocks 3 copied 2 limit 2\n");
+        let line = Line { date: "2026-01-31T23:59:00Z".to_string(), id: 5, blocks: 3, copied: 1, limit: 2 };
+        assert_eq!(line.text(), "2026-01-31T23:59:00Z id 5 blocks 3 copied 1 limit 2\n");
         assert_eq!(Line::of_text(line.text().trim_end()), Some(line));
-        assert_eq!(Line::of_text("2026-01-31T23:59:00Z id 5 blocks 3 copied 2"), None);
-        assert_eq!(Line::of_text("2026-01-31T23:59:00Z id 5 blocks x copied 2 limit 2"), None);
+        assert_eq!(Line::of_text("2026-01-31T23:59:00Z id 5 blocks 3 copied 1"), None);
+        assert_eq!(Line::of_text("2026-01-31T23:59:00Z id 5 blocks x copied 1 limit 2"), None);
     }
 
     /// What a log that holds `there` is after `line` was put to it, when it had `before` bytes before the removal.

@@ -88,9 +88,10 @@ fn case_6(version: Version) -> Station {
 #[test]
 fn cases_4_to_7() {
     for mut s in Version::ALL.map(case_6) {
-        assert_eq!(s.remove(5), Ok(2));
+        assert_eq!(s.remove(5), Ok(1));
         const FILES: Files = &[(2, 2, &[(4, 2)]), (9, 1, &[(7, 1)])];
-        s.is(16, FILES, &[(0, 4), (6, 1), (8, 8)], &[(2, 5, 2), (3, 9, 0), (6, 5, 2), (7, 9, 0)]);
+        s.is(16, FILES, &[(0, 4), (6, 1), (8, 8)], &[(2, 5, 2), (3, 9, 0), (7, 9, 0)]);
+        assert_eq!(s.disk[6 * BLOCK..][..BLOCK], [255; BLOCK], "a free block of the target keeps its bytes");
     }
 }
 
@@ -98,7 +99,7 @@ fn cases_4_to_7() {
 #[test]
 fn case_7_of_version_2() {
     let mut s = case_6(Version::LARGE);
-    assert_eq!(s.remove(5), Ok(2));
+    assert_eq!(s.remove(5), Ok(1));
     let (header, files) = ([0, 2, 0, 0, 0, 16, 0, 2], [[0, 2, 0, 0, 0, 2], [0, 9, 0, 0, 0, 1]]);
     let held = [[0, 0, 0, 4, 0, 0, 0, 2], [0, 0, 0, 7, 0, 0, 0, 1]];
     let free = [[0, 0, 0, 0, 0, 0, 0, 4], [0, 0, 0, 6, 0, 0, 0, 1], [0, 0, 0, 8, 0, 0, 0, 8]];
@@ -158,5 +159,22 @@ fn case_11() {
         assert_eq!(s.remove(1), Ok(3));
         const AFTER: Files = &[(2, 7, &[(0, 4), (13, 1), (14, 2)]), (3, 5, &[(8, 4), (12, 1)])];
         s.is(16, AFTER, &[(4, 4)], &[(14, 2, 4), (15, 2, 5), (13, 2, 6)]);
+    }
+}
+
+/// A buddy of 8 blocks in which two pieces are free: only the blocks before, between and behind them are copied.
+#[test]
+fn free_pieces_in_the_buddy() {
+    const FILES: Files = &[(1, 8, &[(0, 8)]), (2, 3, &[(8, 1), (10, 2)]), (3, 2, &[(14, 2)]), (4, 8, &[(24, 8)])];
+    const AFTER: Files = &[(2, 3, &[(16, 1), (18, 2)]), (3, 2, &[(22, 2)]), (4, 8, &[(24, 8)])];
+    for version in Version::ALL {
+        let mut cat = bytes(version, 32, FILES, &[(9, 1), (12, 2), (16, 8)]);
+        let mut disk: Vec<u8> = (0..32).flat_map(|block| [block; BLOCK]).collect();
+        assert_eq!(event_disk::remove(&mut cat, &mut disk, 1), Ok(5));
+        assert_eq!(cat, bytes(version, 32, AFTER, &[(0, 16), (17, 1), (20, 2)]));
+        let from: Vec<u8> = disk.chunks(BLOCK).map(|block| block[0]).collect();
+        assert_eq!(from[..16], Vec::from_iter(0..16));
+        assert_eq!(from[16..24], [8, 17, 10, 11, 20, 21, 14, 15]);
+        assert_eq!(from[24..], Vec::from_iter(24..32));
     }
 }

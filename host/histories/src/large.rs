@@ -31,12 +31,8 @@ struct Lists {
 
 /// What is run: longer disks have fewer calls.
 const DISKS: [Lists; 3] = [
-    Lists {
-        blocks: 65_537,
-        calls: 200,
-        mixes: &[Mix::Many, Mix::Pieces, Mix::Full, Mix::Copies, Mix::Any, Mix::Swarm],
-    },
-    Lists { blocks: 262_144, calls: 120, mixes: &[Mix::Many, Mix::Pieces, Mix::Full, Mix::Copies] },
+    Lists { blocks: 65_537, calls: 200, mixes: &[Mix::Many, Mix::Pieces, Mix::Full, Mix::Moves, Mix::Any, Mix::Swarm] },
+    Lists { blocks: 262_144, calls: 120, mixes: &[Mix::Many, Mix::Pieces, Mix::Full, Mix::Moves] },
     Lists { blocks: 1_048_576, calls: 110, mixes: &[Mix::Many, Mix::Pieces] },
 ];
 
@@ -157,7 +153,7 @@ impl Counts {
         self.tally.print_removals();
     }
 
-    /// There were 64 files at once, as many pieces as a file can have, no space, and copies.
+    /// There were 64 files at once, as many pieces as a file can have, no space, copies, and free blocks not copied.
     fn saw_enough(&self) -> bool {
         let seen = [
             ("64 files", self.most_files == model::MOST_FILES),
@@ -165,6 +161,7 @@ impl Counts {
             ("refusal 11", self.tally.refused(11) > 0),
             ("refusal 10", self.tally.refused(10) > 0),
             ("a removal that copied", self.tally.copied() > 0),
+            ("a buddy with free blocks that moved", self.tally.spared() > 0),
         ];
         for (what, _) in seen.iter().filter(|(_, seen)| !seen) {
             println!("  never seen on large disks: {what}");

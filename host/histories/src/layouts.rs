@@ -98,3 +98,69 @@ fn distinct_ids(count: usize, numbers: &mut Numbers) -> Vec<u16> {
     }
     ids.into_iter().collect()
 }
+
+#[cfg(test)]
+mod tests {
+    use model::{carries, sound, BLOCK};
+
+    use super::*;
+    use crate::spoil::spoil;
+    use crate::tests::bytes;
+    use crate::twists::twisted;
+
+    #[test]
+    fn layouts_are_sound_and_a_twist_mostly_is_not() {
+        let mut numbers = Numbers::from_seed(2);
+        for version in Version::ALL {
+            let most = version.most_blocks as u32;
+            for blocks in (1..300).chain([4095, 4096, most - 1, most]) {
+                let catalogue = any_sound(version, blocks, &mut numbers);
+                assert_eq!(sound(&bytes(&catalogue)), Some(catalogue));
+            }
+            let own_bytes = |catalogue: &Catalogue| bytes(&Catalogue { version, ..catalogue.clone() });
+            let twist = |numbers: &mut Numbers| sound(&own_bytes(&twisted(version, 24, numbers))).is_none();
+            let broken = (0..2000).filter(|_| twist(&mut numbers)).count();
+            assert!(broken > 1000, "{broken}");
+            let spoilt = |numbers: &mut Numbers| {
+                let catalogue = any_sound(version, 24, numbers);
+                let mut bytes = bytes(&catalogue);
+                spoil(&mut bytes, &catalogue, numbers);
+                sound(&bytes).is_none()
+            };
+            let broken = (0..2000).filter(|_| spoilt(&mut numbers)).count();
+            assert!(broken > 1000, "{broken}");
+        }
+    }
+
+    #[test]
+    fn the_removal_that_copies_most() {
+        for (version, top, copied) in
+            [(Version::SMALL, 11, 2047), (Version::LARGE, 11, 2047), (Version::LARGE, 19, 524_287)]
+        {
+            let catalogue = staircase(version, top);
+            let blocks = 2 << top;
+            assert_eq!(
+                (catalogue.blocks, catalogue.free_blocks(), carries(copied, 1)),
+                (blocks, copied as u32, copied)
+            );
+            let copies = model::removal_copies(&bytes(&catalogue), &vec![0; blocks as usize * BLOCK], 1);
+            assert_eq!(copies.map(|copies| copies.len() as u64), Ok(copied));
+        }
+    }
+
+    /// 390 pairs on 4,095 blocks in version 1; 908 in version 2, which use 7,656 bytes.
+    #[test]
+    fn the_catalogue_of_the_most_pairs() {
+        for (version, blocks, pairs, used) in
+            [(Version::SMALL, 4095, 390, 1822), (Version::LARGE, 1_048_511, 908, 7656)]
+        {
+            let catalogue = most_pairs(version);
+            assert_eq!((catalogue.blocks, catalogue.entries.len()), (blocks, MOST_FILES));
+            let held: usize = catalogue.entries.iter().map(|entry| entry.pairs.len()).sum();
+            assert_eq!(held + catalogue.free.len(), pairs);
+            let bytes = bytes(&catalogue);
+            assert_eq!(bytes.iter().rposition(|&byte| byte != 0), Some(used - 1));
+            assert_eq!(sound(&bytes), Some(catalogue));
+        }
+    }
+}

@@ -17,13 +17,13 @@ pub enum Mix {
     Many,
     /// Any lengths.
     Any,
-    /// Removals that copy as much as can be.
-    Copies,
+    /// Removals that move as many blocks as can be, held and free.
+    Moves,
     /// Files of as many pieces as their blocks can have, or nearly.
     Pieces,
 }
 
-pub const MIXES: [Mix; 6] = [Mix::Swarm, Mix::Full, Mix::Many, Mix::Any, Mix::Copies, Mix::Pieces];
+pub const MIXES: [Mix; 6] = [Mix::Swarm, Mix::Full, Mix::Many, Mix::Any, Mix::Moves, Mix::Pieces];
 
 /// The ids that a history uses: few enough to meet again, with those at the ends.
 pub fn ids(numbers: &mut Numbers) -> Vec<u16> {
@@ -64,7 +64,7 @@ fn next_add(mix: Mix, ids: &[u16], book: &Book, numbers: &mut Numbers) -> Call {
         Mix::Swarm => numbers.within(1, 4),
         Mix::Many => numbers.within(1, 1 + blocks / MOST_FILES),
         Mix::Full if numbers.one_in(3) => f.max(1),
-        Mix::Full | Mix::Copies => numbers.within(1, 1 + f / 2),
+        Mix::Full | Mix::Moves => numbers.within(1, 1 + f / 2),
         Mix::Any => numbers.within(1, blocks + 1),
         Mix::Pieces => many_ones(f.max(1), numbers),
     };
@@ -91,17 +91,18 @@ fn next_id(ids: &[u16], book: &Book, numbers: &mut Numbers) -> u16 {
     }
 }
 
-/// The file to remove: any, or the one for which most blocks are copied.
+/// The file to remove: any, or the one for which the buddies that move have most blocks.
 fn next_removal(mix: Mix, held: &[u16], history: &History, numbers: &mut Numbers) -> u16 {
     let (cat, disk) = (history.twin.catalogue(), history.twin.disk(history.blocks));
-    let copies = |id: &u16| model::removal_copies(cat, disk, *id).map_or(0, |copies| copies.len());
+    let moves = |id: &u16| model::removal_moves(cat, disk, *id).unwrap_or_default();
+    let moved = |id: &u16| moves(id).iter().map(|moved| moved.from.len()).sum::<usize>();
     match mix {
-        Mix::Copies if history.blocks <= 600 || history.blocks <= MOST_WHOLE && numbers.one_in(8) => {
-            *held.iter().max_by_key(|id| copies(id)).expect("a file is there")
+        Mix::Moves if history.blocks <= 600 || history.blocks <= MOST_WHOLE && numbers.one_in(8) => {
+            *held.iter().max_by_key(|id| moved(id)).expect("a file is there")
         }
-        Mix::Copies if history.blocks > MOST_WHOLE => {
+        Mix::Moves if history.blocks > MOST_WHOLE => {
             let some = [0; 3].map(|_| numbers.pick(held));
-            some.into_iter().max_by_key(copies).expect("there are three")
+            some.into_iter().max_by_key(moved).expect("there are three")
         }
         _ => numbers.pick(held),
     }

@@ -61,7 +61,7 @@ fn any_blocks(version: Version, numbers: &mut Numbers) -> usize {
     }
 }
 
-/// Each refusal was given, and a removal reached its limit.
+/// Each refusal was given, a removal reached its limit, and a buddy with free blocks moved.
 fn saw_enough(tally: &Tally) -> bool {
     let missing: Vec<u8> = (1..=11).filter(|&number| tally.refused(number) == 0).collect();
     if !missing.is_empty() {
@@ -70,7 +70,10 @@ fn saw_enough(tally: &Tally) -> bool {
     if tally.at_bound() == 0 {
         println!("  no removal reached its carry bound");
     }
-    missing.is_empty() && tally.at_bound() > 0
+    if tally.spared() == 0 {
+        println!("  no buddy that moved had a free block");
+    }
+    missing.is_empty() && tally.at_bound() > 0 && tally.spared() > 0
 }
 
 /// One list of calls, from a format. A difference is told with its call.

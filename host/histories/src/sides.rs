@@ -2,7 +2,7 @@
 
 use std::ops::Range;
 
-use model::{Answer, Version, BLOCK};
+use model::{Answer, Move, Version, BLOCK};
 
 use crate::call::{Call, Lent};
 
@@ -63,6 +63,16 @@ impl Side {
     pub fn clear_output(&mut self, length: usize) {
         self.out.bytes.clear();
         self.out.bytes.resize(length + 2 * GUARD, UNREAD);
+    }
+
+    /// The buddies that a call is going to move, as the second implementation has it. A refused call moves none.
+    pub fn moves(&self, call: &Call, lent: Lent) -> Vec<Move> {
+        match *call {
+            Call::Remove { id } => {
+                model::removal_moves(self.cat.lent(lent.cat), self.disk.lent(lent.disk), id).unwrap_or_default()
+            }
+            _ => Vec::new(),
+        }
     }
 
     /// Makes a call of the second implementation.

@@ -13,6 +13,7 @@ pub struct Tally {
     refusals: [u64; 12],
     removals: u64,
     copied: u64,
+    moved: u64,
     most_copied: u64,
     at_bound: u64,
     most_at_bound: u64,
@@ -36,6 +37,7 @@ impl Tally {
     pub fn count_removal(&mut self, copied: Copied) {
         self.removals += 1;
         self.copied += copied.blocks;
+        self.moved += copied.moved;
         self.most_copied = self.most_copied.max(copied.blocks);
         if copied.bound > 0 && copied.blocks == copied.bound {
             self.at_bound += 1;
@@ -48,6 +50,7 @@ impl Tally {
         self.calls += other.calls;
         self.removals += other.removals;
         self.copied += other.copied;
+        self.moved += other.moved;
         self.at_bound += other.at_bound;
         self.most_copied = self.most_copied.max(other.most_copied);
         self.most_at_bound = self.most_at_bound.max(other.most_at_bound);
@@ -72,6 +75,11 @@ impl Tally {
         self.copied
     }
 
+    /// The free blocks of buddies that moved, which were not copied.
+    pub fn spared(&self) -> u64 {
+        self.moved - self.copied
+    }
+
     /// Calls by kind, and refusals by number.
     pub fn print_calls(&self) {
         let kinds = NAMES.iter().zip(self.kinds).map(|(name, count)| format!("{name} {count}"));
@@ -82,9 +90,10 @@ impl Tally {
 
     /// The removals.
     pub fn print_removals(&self) {
+        let Tally { removals, copied, moved, most_copied, at_bound, most_at_bound, .. } = self;
+        println!("  removals {removals}: {copied} blocks copied of {moved} in the buddies that moved,");
         println!(
-            "  removals {}: {} blocks copied, at most {} in one; {} reached the carry bound, the greatest at {}",
-            self.removals, self.copied, self.most_copied, self.at_bound, self.most_at_bound
+            "  at most {most_copied} copied in one; {at_bound} reached the carry bound, the greatest at {most_at_bound}"
         );
     }
 }

@@ -1,17 +1,14 @@
 //! The instruments themselves: that they see what is wrong, and that a seed fixes a run.
 
-use model::{carries, sound, write, Answer, Book, Catalogue, Version, BLOCK, MOST_FILES};
+use model::{sound, write, Answer, Book, Catalogue, Move, Version, BLOCK};
 
 use crate::call::{stamp, Call};
 use crate::history::{History, MOST_WHOLE};
-use crate::layouts::{any_sound, most_pairs, staircase};
 use crate::numbers::Numbers;
-use crate::spoil::spoil;
 use crate::tally::Tally;
 use crate::touched::ROUND;
 use crate::twin::Difference;
-use crate::twists::twisted;
-use crate::watch::{compare_state, follow, within_bound, Copied};
+use crate::watch::{check_copies, compare_state, follow, Copied};
 
 /// A disk with id 3 of 3 blocks: on 5 blocks it is at (0,2) (4,1).
 fn history(version: Version, blocks: usize) -> History {
@@ -27,7 +24,8 @@ fn step(history: &mut History, call: Call) -> Result<Answer, Difference> {
     history.step(&call, right, 1, &mut Tally::default())
 }
 
-fn bytes(catalogue: &Catalogue) -> Vec<u8> {
+/// The bytes of a catalogue in a buffer of its version.
+pub fn bytes(catalogue: &Catalogue) -> Vec<u8> {
     let mut bytes = vec![0; catalogue.version.catalogue];
     write(catalogue, &mut bytes);
     bytes
@@ -94,27 +92,46 @@ fn a_stray_block_is_found() {
     }
 }
 
+/// A disk that is not compared whole, with files of these ids and blocks.
+fn long_disk(files: &[(u16, usize)]) -> History {
+    let mut history = History::new(Version::LARGE, 2 * MOST_WHOLE, &mut Numbers::from_seed(1));
+    step(&mut history, Call::Format).expect("no difference").expect("an answer");
+    for &(id, n) in files {
+        step(&mut history, Call::Add { id, length: n * BLOCK }).expect("no difference").expect("an answer");
+    }
+    history
+}
+
 /// Of a long disk, a wrong block that a call touches, or one beside it, is found at that call.
 #[test]
 fn a_wrong_block_at_the_touched_ones_is_found_at_once() {
-    let added = |ids: &[u16]| {
-        let mut history = History::new(Version::LARGE, 2 * MOST_WHOLE, &mut Numbers::from_seed(1));
-        step(&mut history, Call::Format).expect("no difference").expect("an answer");
-        for &id in ids {
-            step(&mut history, Call::Add { id, length: BLOCK }).expect("no difference").expect("an answer");
-        }
-        history
-    };
-    let first = sound(added(&[1]).twin.catalogue()).expect("it is sound").entries[0].pairs[0].first as usize;
+    let one = long_disk(&[(1, 1)]);
+    let first = sound(one.twin.catalogue()).expect("it is sound").entries[0].pairs[0].first as usize;
     // The second file goes to the block after the first one's.
     for (block, found) in [(first - 1, false), (first, true), (first + 2, true), (first + 3, false)] {
-        let mut history = added(&[1]);
+        let mut history = long_disk(&[(1, 1)]);
         history.twin.change_proved(block);
         assert_eq!(step(&mut history, Call::Add { id: 2, length: BLOCK }).is_err(), found, "block {block}");
     }
     // The removal copies the second file's page to the block after the third one's.
     for (block, found) in [(first - 2, false), (first + 1, true), (first + 4, true), (first + 5, false)] {
-        let mut history = added(&[1, 2, 3]);
+        let mut history = long_disk(&[(1, 1), (2, 1), (3, 1)]);
+        history.twin.change_proved(block);
+        assert_eq!(step(&mut history, Call::Remove { id: 1 }).is_err(), found, "block {block}");
+    }
+}
+
+/// The free blocks of a buddy that moves, and of the section that it moves to, are touched ones too.
+#[test]
+fn a_wrong_free_block_of_a_move_is_found_at_once() {
+    let half_free = || long_disk(&[(1, 64), (2, 32), (3, 64)]);
+    let mut history = half_free();
+    assert_eq!(step(&mut history, Call::Remove { id: 1 }), Ok(Ok(32)));
+    let [Move { from, to, copies }] = history.twin.moves() else { panic!("one buddy moves") };
+    assert_eq!((from.len(), copies.last()), (64, Some(&(from.start + 31, to.start + 31))));
+    for (block, found) in [(from.start + 40, true), (to.start + 40, true), (to.end - 1, true), (from.start - 2, false)]
+    {
+        let mut history = half_free();
         history.twin.change_proved(block);
         assert_eq!(step(&mut history, Call::Remove { id: 1 }).is_err(), found, "block {block}");
     }
@@ -132,60 +149,21 @@ fn pages_of_all_calls_ids_and_numbers_differ() {
 
 #[test]
 fn copies_past_the_bound_are_seen() {
-    assert_eq!(within_bound(1, 1, 1), Ok(Copied { blocks: 1, bound: 1 }));
-    assert!(within_bound(1, 1, 2).is_err());
-    assert!(within_bound(2048, 2047, 1).is_err());
+    let moved =
+        |copies: usize| Move { from: 0..4, to: 8..12, copies: (0..copies).map(|block| (block, block + 8)).collect() };
+    assert_eq!(check_copies(1, 1, 0, &[]), Ok(Copied { blocks: 0, moved: 0, bound: 1 }));
+    assert_eq!(check_copies(4, 4, 3, &[moved(3)]), Ok(Copied { blocks: 3, moved: 4, bound: 4 }));
+    assert!(check_copies(4, 4, 5, &[moved(5)]).is_err());
+    assert!(check_copies(2048, 2047, 1, &[moved(1)]).is_err());
 }
 
 #[test]
-fn layouts_are_sound_and_a_twist_mostly_is_not() {
-    let mut numbers = Numbers::from_seed(2);
-    for version in Version::ALL {
-        let most = version.most_blocks as u32;
-        for blocks in (1..300).chain([4095, 4096, most - 1, most]) {
-            let catalogue = any_sound(version, blocks, &mut numbers);
-            assert_eq!(sound(&bytes(&catalogue)), Some(catalogue));
-        }
-        let own_bytes = |catalogue: &Catalogue| bytes(&Catalogue { version, ..catalogue.clone() });
-        let twist = |numbers: &mut Numbers| sound(&own_bytes(&twisted(version, 24, numbers))).is_none();
-        let broken = (0..2000).filter(|_| twist(&mut numbers)).count();
-        assert!(broken > 1000, "{broken}");
-        let spoilt = |numbers: &mut Numbers| {
-            let catalogue = any_sound(version, 24, numbers);
-            let mut bytes = bytes(&catalogue);
-            spoil(&mut bytes, &catalogue, numbers);
-            sound(&bytes).is_none()
-        };
-        let broken = (0..2000).filter(|_| spoilt(&mut numbers)).count();
-        assert!(broken > 1000, "{broken}");
-    }
-}
-
-#[test]
-fn the_removal_that_copies_most() {
-    for (version, top, copied) in
-        [(Version::SMALL, 11, 2047), (Version::LARGE, 11, 2047), (Version::LARGE, 19, 524_287)]
-    {
-        let catalogue = staircase(version, top);
-        let blocks = 2 << top;
-        assert_eq!((catalogue.blocks, catalogue.free_blocks(), carries(copied, 1)), (blocks, copied as u32, copied));
-        let copies = model::removal_copies(&bytes(&catalogue), &vec![0; blocks as usize * BLOCK], 1);
-        assert_eq!(copies.map(|copies| copies.len() as u64), Ok(copied));
-    }
-}
-
-/// 390 pairs on 4,095 blocks in version 1; 908 in version 2, which use 7,656 bytes.
-#[test]
-fn the_catalogue_of_the_most_pairs() {
-    for (version, blocks, pairs, used) in [(Version::SMALL, 4095, 390, 1822), (Version::LARGE, 1_048_511, 908, 7656)] {
-        let catalogue = most_pairs(version);
-        assert_eq!((catalogue.blocks, catalogue.entries.len()), (blocks, MOST_FILES));
-        let held: usize = catalogue.entries.iter().map(|entry| entry.pairs.len()).sum();
-        assert_eq!(held + catalogue.free.len(), pairs);
-        let bytes = bytes(&catalogue);
-        assert_eq!(bytes.iter().rposition(|&byte| byte != 0), Some(used - 1));
-        assert_eq!(sound(&bytes), Some(catalogue));
-    }
+fn a_move_without_a_copy_and_copies_of_no_move_are_seen() {
+    let moved = |copies: &[(usize, usize)]| Move { from: 0..2, to: 4..6, copies: copies.to_vec() };
+    assert!(check_copies(2, 2, 1, &[moved(&[(0, 4)])]).is_ok());
+    assert!(check_copies(2, 2, 2, &[moved(&[(0, 4)])]).is_err());
+    assert!(check_copies(2, 2, 1, &[]).is_err());
+    assert!(check_copies(3, 3, 1, &[moved(&[(0, 4)]), moved(&[])]).is_err());
 }
 
 #[test]

@@ -1,13 +1,14 @@
 //! Which blocks of two disks are compared after a call where comparing all of them would take too long.
 //!
 //! First the blocks that the call touches by the second implementation's own account: the pieces of an added file, or
-//! the sources and targets of a removal's copies, and the block before and after each run of these. Then a window that
-//! goes round the disk, one part of many at each call: so a block that was changed and should not have been is found
-//! when the window comes to it, unless a later call has written over it.
+//! the buddies that a removal moves and the sections that they move to, with the free blocks in them, which keep their
+//! bytes; and the block before and after each of these. Then a window that goes round the disk, one part of many at
+//! each call: so a block that was changed and should not have been is found when the window comes to it, unless a later
+//! call has written over it.
 
 use std::ops::Range;
 
-use model::{Answer, Entry};
+use model::{Answer, Entry, Move};
 
 use crate::call::Call;
 
@@ -21,32 +22,15 @@ pub struct Touched {
     window: Range<usize>,
 }
 
-/// The runs of blocks that follow each other.
-fn runs(blocks: impl Iterator<Item = usize>) -> Vec<Range<usize>> {
-    let mut runs: Vec<Range<usize>> = Vec::new();
-    for block in blocks {
-        match runs.last_mut() {
-            Some(run) if run.end == block => run.end += 1,
-            _ => runs.push(block..block + 1),
-        }
-    }
-    runs
-}
-
 impl Touched {
     /// For disks of so many blocks.
     pub fn new(blocks: usize) -> Touched {
         Touched { blocks, runs: Vec::new(), window: 0..0 }
     }
 
-    /// Notes the copies that a removal is going to make.
-    pub fn before(&mut self, call: &Call, cat: &[u8], disk: &[u8]) {
-        self.runs.clear();
-        if let Call::Remove { id } = *call {
-            let copies = model::removal_copies(cat, disk, id).unwrap_or_default();
-            self.runs = runs(copies.iter().map(|copy| copy.0));
-            self.runs.extend(runs(copies.iter().map(|copy| copy.1)));
-        }
+    /// Notes the buddies that a call is going to move.
+    pub fn before(&mut self, moves: &[Move]) {
+        self.runs = moves.iter().flat_map(|moved| [moved.from.clone(), moved.to.clone()]).collect();
     }
 
     /// Notes the pieces of a file that was added, and moves the window.
@@ -77,10 +61,14 @@ impl Touched {
 mod tests {
     use super::*;
 
+    /// All blocks of both sections, copied or not, and those beside them.
     #[test]
-    fn runs_of_blocks() {
-        assert_eq!(runs([4, 5, 6, 9, 2, 3].into_iter()), [4..7, 9..10, 2..4]);
-        assert_eq!(runs([].into_iter()), []);
+    fn a_move_touches_two_sections() {
+        let mut touched = Touched::new(32);
+        touched.before(&[Move { from: 8..16, to: 16..24, copies: vec![(9, 17)] }]);
+        assert_eq!(Vec::from_iter(touched.ranges()), [7..17, 15..25, 0..0]);
+        touched.before(&[]);
+        assert_eq!(touched.ranges().count(), 1, "the window alone");
     }
 
     /// Over one round the windows cover each block once, and then begin anew.

@@ -1,6 +1,6 @@
 //! The proved manager and the second implementation side by side, on buffers of their own.
 
-use model::{Answer, Entry, Version, BLOCK};
+use model::{Answer, Entry, Move, Version, BLOCK};
 
 use crate::before::Before;
 use crate::call::{Call, Lent};
@@ -17,6 +17,8 @@ pub struct Twin {
     proved: Side,
     second: Side,
     before: Before,
+    /// The buddies that the last call moved, by the second implementation's account.
+    moves: Vec<Move>,
     /// Where only a part of the disks is compared after a call, that part.
     touched: Option<Touched>,
 }
@@ -25,7 +27,7 @@ impl Twin {
     /// Both with buffers for at most so many blocks; all bytes are compared after every call.
     pub fn new(version: Version, most_blocks: usize) -> Twin {
         let (proved, second) = (Side::new(most_blocks), Side::new(most_blocks));
-        Twin { version, proved, second, before: Default::default(), touched: None }
+        Twin { version, proved, second, before: Default::default(), moves: Vec::new(), touched: None }
     }
 
     /// The same, but of the disks only the blocks of `Touched` are compared after a call.
@@ -72,6 +74,11 @@ impl Twin {
         self.proved.out.lent(length)
     }
 
+    /// The buddies that the last call moved, if it was answered.
+    pub fn moves(&self) -> &[Move] {
+        &self.moves
+    }
+
     /// Whether the last call touched a block of this file; of each file if all bytes are compared.
     pub fn touched(&self, entry: &Entry) -> bool {
         self.touched.as_ref().is_none_or(|touched| touched.meets(entry))
@@ -83,8 +90,9 @@ impl Twin {
         for side in [&mut self.proved, &mut self.second] {
             side.clear_output(call.output_length());
         }
+        self.moves = self.second.moves(call, lent);
         if let Some(touched) = &mut self.touched {
-            touched.before(call, self.second.cat.lent(lent.cat), self.second.disk.lent(lent.disk));
+            touched.before(&self.moves);
         }
         let second = self.second.call_model(call, lent, content);
         if let Some(touched) = &mut self.touched {

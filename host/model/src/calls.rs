@@ -1,6 +1,6 @@
 //! The calls on bytes. A call first finds whether it is refused, and for that it only looks at its buffers.
 
-use crate::{sound, write, BlockMap, Catalogue, Version, BLOCK, MOST_FILES};
+use crate::{sound, write, BlockMap, Catalogue, Move, Version, BLOCK, MOST_FILES};
 
 /// The answer of a call, or the number of its refusal.
 pub type Answer = Result<u64, u8>;
@@ -77,16 +77,21 @@ fn look_for_remove(cat: &[u8], disk: &[u8], id: u16) -> Result<BlockMap, u8> {
     Ok(BlockMap::of(&catalogue))
 }
 
+/// The buddies that the removal of an id moves, in order.
+pub fn removal_moves(cat: &[u8], disk: &[u8], id: u16) -> Result<Vec<Move>, u8> {
+    Ok(look_for_remove(cat, disk, id)?.remove(id))
+}
+
 /// The block copies that the removal of an id makes, from and to, in order.
 pub fn removal_copies(cat: &[u8], disk: &[u8], id: u16) -> Result<Vec<(usize, usize)>, u8> {
-    Ok(look_for_remove(cat, disk, id)?.remove(id))
+    Ok(removal_moves(cat, disk, id)?.into_iter().flat_map(|moved| moved.copies).collect())
 }
 
 /// Remove.
 pub fn remove(cat: &mut [u8], disk: &mut [u8], id: u16) -> Answer {
     let mut map = look_for_remove(cat, disk, id)?;
     let mut copied = 0;
-    for (from, to) in map.remove(id) {
+    for (from, to) in map.remove(id).into_iter().flat_map(|moved| moved.copies) {
         disk.copy_within(from * BLOCK..(from + 1) * BLOCK, to * BLOCK);
         copied += 1;
     }

@@ -1,7 +1,20 @@
 //! Adding and removing, on the map of blocks.
 
+use std::ops::Range;
+
 use crate::blocks::height_of_page;
 use crate::{BlockMap, Owner};
+
+/// A buddy that moves to a free section.
+#[derive(Clone, Debug, PartialEq, Eq)]
+pub struct Move {
+    /// The blocks of the buddy.
+    pub from: Range<usize>,
+    /// The blocks of the section that it moves to.
+    pub to: Range<usize>,
+    /// The block copies, from and to, in order.
+    pub copies: Vec<(usize, usize)>,
+}
 
 impl BlockMap {
     /// Makes a block range free as one piece of a height.
@@ -31,8 +44,8 @@ impl BlockMap {
         self.sizes.insert(id, n);
     }
 
-    /// Frees the blocks of a file and merges. The result is the list of block copies, from and to, in order.
-    pub fn remove(&mut self, id: u16) -> Vec<(usize, usize)> {
+    /// Frees the blocks of a file and merges. The result is the list of buddies that move, in order.
+    pub fn remove(&mut self, id: u16) -> Vec<Move> {
         let n = self.sizes.remove(&id).expect("the id is in the catalogue");
         for owner in &mut self.owners {
             match *owner {
@@ -42,15 +55,15 @@ impl BlockMap {
                 _ => {}
             }
         }
-        let mut copies = Vec::new();
+        let mut moves = Vec::new();
         for height in 0..self.version.most_height() {
-            while self.merge_lowest_two(height, &mut copies) {}
+            while self.merge_lowest_two(height, &mut moves) {}
         }
-        copies
+        moves
     }
 
     /// Merges once at a height, if it has two free pieces or more.
-    fn merge_lowest_two(&mut self, height: u8, copies: &mut Vec<(usize, usize)>) -> bool {
+    fn merge_lowest_two(&mut self, height: u8, moves: &mut Vec<Move>) -> bool {
         let lowest: Vec<usize> = self.free_pieces(height).take(2).collect();
         let [lower, upper] = lowest[..] else { return false };
         let length = 1 << height;
@@ -58,10 +71,18 @@ impl BlockMap {
         let whole = lower / (2 * length) * (2 * length);
         let buddy = if lower == whole { whole + length } else { whole };
         if upper != buddy {
-            copies.extend((0..length).map(|distance| (buddy + distance, upper + distance)));
-            self.owners.copy_within(buddy..buddy + length, upper);
+            moves.push(self.move_blocks(buddy..buddy + length, upper..upper + length));
         }
         self.set_free(whole, height + 1);
         true
+    }
+
+    /// Moves blocks: each has the same owner at the same distance in the other range, be it free or not, but only a
+    /// block that belongs to a file is copied.
+    fn move_blocks(&mut self, from: Range<usize>, to: Range<usize>) -> Move {
+        let both = from.clone().zip(to.clone());
+        let copies = both.filter(|&(block, _)| matches!(self.owners[block], Owner::Held { .. })).collect();
+        self.owners.copy_within(from.clone(), to.start);
+        Move { from, to, copies }
     }
 }

@@ -68,7 +68,7 @@ pub fn remove(cat: &mut [u8], disk: &mut [u8], id: u16) -> Answer {
     table.release(at);
     let mut copied = 0;
     while let Some((lower, upper)) = table.free.take_pair() {
-        copied += copy_merge(disk, lower, upper);
+        copied += copy_merge(disk, &table.free, lower, upper);
         table.merge(lower, upper);
     }
     store(cat, &table);

@@ -1,20 +1,33 @@
 //! The blocks of a disk: copies within it, pages written to pieces and read from them.
 
+use crate::pieces::FreePieces;
 use crate::section::Section;
 use crate::table::Entry;
 use crate::BLOCK;
+use std::ops::Range;
 
-/// Makes the copies of a merge, the blocks of the lower section's buddy to the upper one, and answers how many.
-pub fn copy_merge(disk: &mut [u8], lower: Section, upper: Section) -> u64 {
+/// Makes the copies of a merge, and answers how many: blocks of the lower section's buddy go to the upper section. Of
+/// the buddy files hold what lies between the free pieces inside it, which stand by rising first block.
+pub fn copy_merge(disk: &mut [u8], free: &FreePieces, lower: Section, upper: Section) -> u64 {
     let buddy = lower.buddy();
     if buddy == upper {
         return 0;
     }
+    let (mut made, mut held) = (0, buddy.first);
+    for piece in free.all().iter().filter(|piece| piece.is_inside(buddy)) {
+        made += copy_run(disk, held..piece.first, buddy, upper);
+        held = piece.end();
+    }
+    made + copy_run(disk, held..buddy.end(), buddy, upper)
+}
+
+/// Copies blocks that lie inside one section to the same distance in another, and answers how many.
+fn copy_run(disk: &mut [u8], blocks: Range<u32>, from: Section, to: Section) -> u64 {
     let mut made = 0;
-    for distance in 0..lower.length() {
-        let from = BLOCK * (buddy.first + distance) as usize;
-        let to = BLOCK * (upper.first + distance) as usize;
-        disk.copy_within(from..from + BLOCK, to);
+    for block in blocks {
+        let source = BLOCK * block as usize;
+        let target = BLOCK * (to.first + (block - from.first)) as usize;
+        disk.copy_within(source..source + BLOCK, target);
         made += 1;
     }
     made

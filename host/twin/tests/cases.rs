@@ -89,8 +89,9 @@ fn case_6(version: Version) -> Station {
 #[test]
 fn cases_4_to_7_add_three_files_and_remove_one() {
     for version in Version::ALL {
-        let seven = case_6(version).without(5, 2);
+        let seven = case_6(version).without(5, 1);
         let seven = seven.has(&[(2, &[(4, 2)]), (9, &[(7, 1)])], &[(0, 4), (6, 1), (8, 8)]);
+        assert_eq!(seven.disk[6 * BLOCK..7 * BLOCK], [0xbb; BLOCK], "a free block of the target keeps its bytes");
         assert_eq!(seven.pages(9, 1), content(9, 1));
         assert_eq!(seven.pages(2, 2), content(2, 2));
         assert_eq!(free(&seven.cat), Ok(13));
@@ -134,6 +135,21 @@ fn case_11_is_the_deletion_of_the_paper() {
         let eleven = eleven.has(&[(2, &[(0, 4), (13, 1), (14, 2)]), (3, &[(8, 4), (12, 1)])], &[(4, 4)]);
         let pages: Vec<u8> = (0..7).flat_map(|page| [page; BLOCK]).collect();
         assert_eq!(eleven.pages(2, 7), pages);
+    }
+}
+
+/// The buddy (8,8) moves to (16,8): of its blocks those are copied that lie before, between and behind the free pieces
+/// (9,1) and (12,2).
+#[test]
+fn free_pieces_in_the_buddy_move_without_their_blocks() {
+    for version in Version::ALL {
+        let files: [(u16, &[Pair]); 3] = [(1, &[(0, 8)]), (2, &[(8, 1), (10, 2), (24, 8)]), (3, &[(14, 2)])];
+        let cat = bytes_of(version, 32, &files, &[(9, 1), (12, 2), (16, 8)]);
+        let disk = (0..32).flat_map(|block| [block; BLOCK]).collect();
+        let moved = Station { version, cat, disk }.without(1, 5);
+        let moved = moved.has(&[(2, &[(16, 1), (18, 2), (24, 8)]), (3, &[(22, 2)])], &[(0, 16), (17, 1), (20, 2)]);
+        let target: Vec<u8> = [8, 17, 10, 11, 20, 21, 14, 15].into_iter().flat_map(|block| [block; BLOCK]).collect();
+        assert_eq!(moved.disk[16 * BLOCK..24 * BLOCK], target);
     }
 }
 

@@ -13,15 +13,15 @@ use Rattle.table.proofs.FilesMoving.{FilesMoving, moving-can, moving-end, movin
 use Rattle.table.specs.declared.Table.{Table}
 use Rattle.table.proofs.FilesMoving.{moving-more, moving-places, moving-start}
 use Rattle.settling.proofs.Settling.{Settling, settling-start, settling-ready, settling-copies, settling-more}
-use Rattle.settling.proofs.Settling.{settling-end}
+use Rattle.settling.proofs.Settling.{settling-countable, settling-end}
 use Rattle.settling.proofs.settle.Statement.{statement}
 use Rattle.settling.proofs.settle.Tie as tie
 
 abbrev Inv-files : tie.InvT-files
-Inv-files disk t₀ copied p upper made buddy m i₀ t i = FilesMoving p buddy upper m t₀ t i
+Inv-files disk t₀ copied p made upper buddy m i₀ t i = FilesMoving p buddy upper m t₀ t i
 
 abbrev μ-files : tie.MeasureT-files
-μ-files disk t₀ copied p upper made buddy m i₀ t i = m - i
+μ-files disk t₀ copied p made upper buddy m i₀ t i = m - i
 
 abbrev Inv-merges : tie.InvT-merges
 Inv-merges disk₀ t₀ copied₀ p₀ disk t copied p =
@@ -42,23 +42,27 @@ merges-holds c =
 
 copy-merge-requires : tie.Need-copy-merge-requires Inv-files μ-files Inv-merges μ-merges
 copy-merge-requires c κs =
-    let v = c .before .before .before .before .merges .inv in
-    settling-copies _ _ _ _ _ (v .0) _ (v .1) (c .before .before .before .merges-test .taken)
+    let v = c .before .before .merges .inv in (
+      settling-copies _ _ _ _ _ (v .0) _ (v .1) (c .before .merges-test .taken),
+      settling-countable _ _ _ _ _ (v .0) _ (v .1) (c .before .merges-test .taken),
+    )
 
 add-copied : tie.Need-add-copied Inv-files μ-files Inv-merges μ-merges
 add-copied c =
-    let v = c .before .before .before .before .before .before .before .merges .inv in
+    let v = c .before .before .before .before .before .merges .inv in
     omega (arith, v .0 .bounded, c .before .before .copy-merge .ensures .most)
 
 buddy-requires : tie.Need-buddy-requires Inv-files μ-files Inv-merges μ-merges
 buddy-requires c κs =
     let l = c .before .before .before .before .before .before .before .merges in
-    settling-ready _ _ _ _ _ (l .inv .0) _ (l .inv .1) (c .before .before .before .before .before .before .merges-test .taken) .lower .0
+    let t = c .before .before .before .before .before .before .merges-test in
+    settling-ready _ _ _ _ _ (l .inv .0) _ (l .inv .1) (t .taken) .lower .0
 
 files-holds : tie.Need-files-holds Inv-files μ-files Inv-merges μ-merges
 files-holds c =
     let l = c .before .before .before .before .before .before .before .before .merges in
-    let a = settling-ready _ _ _ _ _ (l .inv .0) _ (l .inv .1) (c .before .before .before .before .before .before .before .merges-test .taken) in
+    let t = c .before .before .before .before .before .before .before .merges-test in
+    let a = settling-ready _ _ _ _ _ (l .inv .0) _ (l .inv .1) (t .taken) in
     moving-start (l .p) (c .buddy .result) (l .p .upper) (l .t) a (c .buddy .ensures) refl (l .inv .2)
 
 mul-e : tie.Need-mul-e Inv-files μ-files Inv-merges μ-merges
@@ -94,9 +98,10 @@ files-less c = search needs
 
 files-again : tie.Need-files-again Inv-files μ-files Inv-merges μ-merges
 files-again c =
-    let l = c .before .before .before .before .before .before .before .before .before .before .before .before .before .before .before .merges in
     let f = c .before .before .before .before .before .before .files in
-    let b = c .before .before .before .before .before .before .before .buddy .result in
+    let buddy = c .before .before .before .before .before .before .before in
+    let b = buddy .buddy .result in
+    let l = buddy .before .before .before .before .before .before .before .before .merges in
     let lt = c .before .before .before .before .before .files-test .taken in
     let Next : Table → Type 0 = λ r. FilesMoving (l .p) b (l .p .upper) (l .t .count) (l .t) r (f .i + 1) in
     elim (c .if1 .came) as (λ _. Next (c .if1 .t)) [
@@ -115,14 +120,16 @@ lowest-pair-requires-2 c κs = search needs
 
 merges-less : tie.Need-merges-less Inv-files μ-files Inv-merges μ-merges
 merges-less c =
-    let v = c .before .before .before .before .before .before .before .before .before .before .before .before .merges .inv in
-    omega (arith, c .before .free-merged .ensures .count, v .1 .less (c .before .before .before .before .before .before .before .before .before .before .before .merges-test .taken))
+    let test = c .before .before .before .before .before .before .before .before .before .before .before in
+    let v = test .before .merges .inv in
+    omega (arith, c .before .free-merged .ensures .count, v .1 .less (test .merges-test .taken))
 
 merges-again : tie.Need-merges-again Inv-files μ-files Inv-merges μ-merges
 merges-again c =
-    let l = c .before .before .before .before .before .before .before .before .before .before .before .before .merges in
+    let test = c .before .before .before .before .before .before .before .before .before .before .before in
+    let l = test .before .merges in
     let f = c .before .before .before .files in
-    let k = c .before .before .before .before .before .before .before .copy-merge in
+    let k = c .before .before .before .before .before .before .before .before .before .copy-merge in
     let w = c .before .free-merged in
     let t : Table = record {
       blocks = f .t .blocks;
@@ -130,9 +137,9 @@ merges-again c =
       files = f .t .files;
       free = w .result;
     } in
-    let m = moving-end _ _ _ _ _ _ _ (f .inv) (omega (arith, c .before .before .files-test .left)) t refl refl refl (w .ensures) in (
-      settling-more _ _ _ _ _ (l .inv .0) _ (l .inv .1) (c .before .before .before .before .before .before .before .before .before .before .before .merges-test .taken) _ (k .result) t
-          (k .ensures) m,
+    let m = moving-end _ _ _ _ _ _ _ (f .inv) (omega (arith, c .before .before .files-test .left)) t refl refl refl
+    (w .ensures) in (
+      settling-more _ _ _ _ _ (l .inv .0) _ (l .inv .1) (test .merges-test .taken) _ (k .result) t (k .ensures) m,
       c .lowest-pair2 .ensures,
       moving-long _ _ _ _ _ _ _ (f .inv),
     )

@@ -19,7 +19,7 @@ fn the_commands_say_what_they_did() {
 #[test]
 fn case_7_is_listed_and_drawn() {
     let scratch = Scratch::case_6();
-    assert_eq!(scratch.does("remove d 5"), "removed 5: 2 blocks copied (contract limit 2)\n");
+    assert_eq!(scratch.does("remove d 5"), "removed 5: 1 block copied (contract limit 2)\n");
     let list = "   id  blocks  pieces  breaks  places (first block,length)
     2       2       1       0  (4,2)
     9       1       1       0  (7,1)
@@ -84,7 +84,7 @@ fn the_log_has_a_line_for_each_removal() {
     let log = scratch.does("log d");
     let lines: Vec<&str> = log.lines().collect();
     assert_eq!(lines.len(), 3);
-    assert!(lines[1].ends_with("Z      5       3       2       2"), "{log}");
+    assert!(lines[1].ends_with("Z      5       3       1       2"), "{log}");
     assert!(lines[2].ends_with("Z      9       1       0       1"), "{log}");
 }
 

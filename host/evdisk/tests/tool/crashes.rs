@@ -72,6 +72,18 @@ fn a_removal_cut_off_after_any_write_is_found_undone_or_done() {
 }
 
 #[test]
+fn a_removal_writes_the_blocks_that_it_copies_to_and_no_others() {
+    for scratch in Scratch::cases_6() {
+        let before = scratch.read("d");
+        let made = remove(&scratch, 5, usize::MAX).made;
+        assert_eq!(made.iter().filter(|write| *write == "block written").count(), 1);
+        let after = scratch.read("d");
+        let changed = |block: &usize| before[block * 512..][..512] != after[block * 512..][..512];
+        assert_eq!(Vec::from_iter((0..16).filter(changed)), [7], "block 6 is free and keeps its bytes");
+    }
+}
+
+#[test]
 fn a_removal_cut_off_again_while_it_is_completed_is_done() {
     let mut removals = removals();
     for (old, id) in [removals.swap_remove(4), removals.swap_remove(1)] {
@@ -125,7 +137,7 @@ fn a_redo_file_half_written_is_cleared_away() {
         scratch.says("remove d 60000");
         assert!(!scratch.path("d.redo.new").exists());
     }
-    assert_eq!(scratch.does("remove d 5"), "removed 5: 2 blocks copied (contract limit 2)\n");
+    assert_eq!(scratch.does("remove d 5"), "removed 5: 1 block copied (contract limit 2)\n");
 }
 
 /// Adds event 7 of 9 blocks, cut off after so many writes; says which were made.

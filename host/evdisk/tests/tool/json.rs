@@ -85,7 +85,7 @@ fn the_log_in_json_is_a_list() {
     scratch.does("remove d 2");
     let log = json(&scratch, "log d");
     assert!(log.starts_with(r#"[{"date":"20"#), "{log}");
-    assert!(log.contains(r#"Z","id":5,"blocks":3,"copied":2,"limit":2},{"date":"#), "{log}");
+    assert!(log.contains(r#"Z","id":5,"blocks":3,"copied":1,"limit":2},{"date":"#), "{log}");
     assert!(log.ends_with(r#"Z","id":2,"blocks":2,"copied":0,"limit":0}]"#), "{log}");
 }
 

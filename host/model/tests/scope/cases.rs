@@ -79,15 +79,15 @@ fn case_6_a_file_of_two() {
 fn case_7_a_removal() {
     in_each_version(|version| {
         let mut station = case_6(version);
-        assert_eq!(removal_copies(&station.cat, &station.disk, 5), Ok(vec![(2, 6), (3, 7)]));
-        assert_eq!(station.remove(5), Ok(2));
+        assert_eq!(removal_copies(&station.cat, &station.disk, 5), Ok(vec![(3, 7)]));
+        assert_eq!(station.remove(5), Ok(1));
         let files: &[_] = &[(2, 2, &[(4, 2)][..]), (9, 1, &[(7, 1)])];
         station.lists(16, files, &[(0, 4), (6, 1), (8, 8)]);
-        let left =
-            [(0, page(5, 0)), (1, page(5, 1)), (2, page(5, 2)), (3, page(9, 0)), (6, page(5, 2)), (7, page(9, 0))];
+        let left = [(0, page(5, 0)), (1, page(5, 1)), (2, page(5, 2)), (3, page(9, 0)), (7, page(9, 0))];
         for (number, bytes) in left {
             assert_eq!(station.block(number), bytes, "block {number}");
         }
+        assert_eq!(station.block(6), [0xCD; 512], "a free block of the target keeps its bytes");
         assert!(station.reads_back(9, 1) && station.reads_back(2, 2));
     });
 }

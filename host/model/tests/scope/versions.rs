@@ -7,7 +7,7 @@ use model::{add, breaks, check, format, free, read, remove, sound, Version, BLOC
 fn case_7(version: Version) -> Station {
     let mut station = Station::fresh(version, 16);
     assert_eq!([station.add(5, 3), station.add(9, 1), station.add(2, 2)], [Ok(3), Ok(1), Ok(2)]);
-    assert_eq!(station.remove(5), Ok(2));
+    assert_eq!(station.remove(5), Ok(1));
     station
 }
 

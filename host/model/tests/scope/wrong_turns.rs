@@ -3,7 +3,7 @@
 use std::ops::Range;
 
 use crate::common::{bytes, in_each_version, page, File, Pairs, Station};
-use model::{carries, removal_copies, sound, BlockMap, Catalogue, Version, BLOCK};
+use model::{carries, removal_copies, sound, BlockMap, Catalogue, Move, Version, BLOCK};
 
 /// The heights with so many heights above them that are tried with all bytes of a disk. Higher ones, which would need
 /// long disks, are tried on the map of blocks alone.
@@ -11,8 +11,8 @@ fn heights_on_a_disk(version: Version, above: u8) -> Range<u8> {
     0..version.most_height().min(14) + 1 - above
 }
 
-/// The copies of the removal of id 1 on the map of blocks, and the catalogue after it.
-fn removed(version: Version, blocks: u32, files: &[File], free: Pairs) -> (Vec<(usize, usize)>, Catalogue) {
+/// The buddies that the removal of id 1 moves on the map of blocks, and the catalogue after it.
+fn removed(version: Version, blocks: u32, files: &[File], free: Pairs) -> (Vec<Move>, Catalogue) {
     let mut map = BlockMap::of(&sound(&bytes(version, blocks, files, free)).expect("it is sound"));
     (map.remove(1), map.catalogue())
 }
@@ -31,16 +31,14 @@ fn pieces_are_not_read_in_the_order_of_the_pairs() {
     });
 }
 
-/// A free piece inside the buddy goes with it, with its bytes.
+/// A free piece inside the buddy goes with it.
 #[test]
 fn a_small_free_piece_moves_with_the_buddy() {
     in_each_version(|version| {
         let files: &[_] = &[(1, 2, &[(4, 2)][..]), (2, 1, &[(2, 1)])];
         let mut station = Station::laid_out(version, 6, files, &[(0, 2), (3, 1)]);
-        station.disk[3 * BLOCK..4 * BLOCK].fill(0x33);
-        assert_eq!(station.remove(1), Ok(2));
+        assert_eq!(station.remove(1), Ok(1));
         station.lists(6, &[(2, 1, &[(4, 1)])], &[(0, 4), (5, 1)]);
-        assert_eq!(station.block(5), [0x33; BLOCK]);
     });
 }
 
@@ -84,16 +82,18 @@ fn buddies_and_last_sections_of_every_height() {
         for height in 0..version.most_height() {
             let length: u32 = 1 << height;
             let files: &[_] = &[(1, length, &[(length, length)][..])];
-            let (copies, after) = removed(version, 2 * length, files, &[(0, length)]);
-            assert_eq!(copies, [], "height {height}");
+            let (moves, after) = removed(version, 2 * length, files, &[(0, length)]);
+            assert_eq!(moves, [], "height {height}");
             assert_eq!(sound(&bytes(version, 2 * length, &[], &[(0, 2 * length)])), Some(after));
         }
         for height in 0..version.most_height() - 1 {
             let length: u32 = 1 << height;
             let files: &[_] = &[(1, length, &[(2 * length, length)][..]), (2, length, &[(0, length)])];
-            let (copies, after) = removed(version, 3 * length, files, &[(length, length)]);
-            let up = 2 * length as usize;
-            assert!(copies.into_iter().eq((0..length as usize).map(|block| (block, up + block))), "height {height}");
+            let (moves, after) = removed(version, 3 * length, files, &[(length, length)]);
+            let [moved] = &moves[..] else { panic!("{} buddies move at height {height}", moves.len()) };
+            let (end, up) = (length as usize, 2 * length as usize);
+            assert_eq!((&moved.from, &moved.to), (&(0..end), &(up..up + end)));
+            assert!(moved.copies.iter().copied().eq((0..end).map(|block| (block, up + block))), "height {height}");
             let moved: &[_] = &[(2, length, &[(2 * length, length)][..])];
             assert_eq!(sound(&bytes(version, 3 * length, moved, &[(0, 2 * length)])), Some(after));
         }
@@ -106,7 +106,7 @@ fn merging_does_not_stop_at_a_height_without_two() {
     in_each_version(|version| {
         let files: &[_] = &[(1, 5, &[(6, 1), (8, 4)][..]), (2, 1, &[(7, 1)])];
         let mut station = Station::laid_out(version, 12, files, &[(0, 4), (4, 2)]);
-        assert_eq!(station.remove(1), Ok(4));
+        assert_eq!(station.remove(1), Ok(1));
         station.lists(12, &[(2, 1, &[(11, 1)])], &[(0, 8), (8, 2), (10, 1)]);
         assert!(station.reads_back(2, 1));
     });

@@ -5,7 +5,8 @@ use Prim.Native.Nat.{_+_, _-_, _≤_}
 use native.Mathlib.Omega.{arith}
 use lib.ListN.{length}
 use borrow.Author.Needs.{needs}
-use Rattle.blocks.proofs.DiskCopies.{copies-end, copies-more, copies-start, length-run}
+use Rattle.layout.proofs.MergeKeeps.{length-copyRun}
+use Rattle.blocks.proofs.DiskCopies.{copies-end, copies-more, copies-start}
 use Rattle.layout.specs.Removing.{copyRun}
 use Rattle.manager.specs.Disk.{runCopies}
 use Rattle.blocks.proofs.disk.copy_run.Statement.{statement}
@@ -63,7 +64,7 @@ returns c =
         disk =
             copies-end (c .before .loop .disk) (a .from) (a .to) (a .n) (c .before .loop .made) (c .loop-test .left)
             ∙ v .2;
-        count = omega (arith, length-run (a .n) (a .from) (a .to));
+        count = omega (arith, length-copyRun (a .from) (a .to) (a .n));
         most = omega arith;
         same = v .1;
       },

@@ -1,0 +1,39 @@
+//! The tables of other builds.
+
+use crate::builds::Build;
+use crate::markdown::{ratio, table};
+use crate::timing::Beside;
+use twin::Version;
+
+/// The first cells of a line, and the builds beside that have a place in it.
+pub type BesideLine<'a> = (Vec<String>, &'a [Beside]);
+
+/// The proved calls over those of other builds, and which builds are left out since they do not have the version. There
+/// is nothing to tell in a run without other builds.
+pub fn beside_part(
+    builds: &[&Build],
+    version: Version,
+    first_cells: &[&str],
+    lines: &[BesideLine],
+    nanoseconds: fn(f64) -> String,
+) -> String {
+    let there: Vec<&Build> = lines.first().map_or(vec![], |(_, besides)| besides.iter().map(|b| b.build).collect());
+    let mut text = String::new();
+    if !there.is_empty() {
+        let ratios = there.iter().map(|build| format!("proved / {}", build.name));
+        let times = there.iter().map(|build| format!("{} ns", build.name));
+        let names: Vec<String> = ratios.chain(times).collect();
+        let header: Vec<&str> = first_cells.iter().copied().chain(names.iter().map(String::as_str)).collect();
+        let row = |(cells, besides): &BesideLine| {
+            let ratios = besides.iter().map(|beside| ratio(beside.from_proved));
+            let times = besides.iter().map(|beside| nanoseconds(beside.time.median));
+            cells.iter().cloned().chain(ratios).chain(times).collect()
+        };
+        let rows: Vec<Vec<String>> = lines.iter().map(row).collect();
+        text = format!("\nBeside other builds:\n\n{}", table(&header, &rows));
+    }
+    for build in builds.iter().filter(|build| !there.contains(build)) {
+        text += &format!("\nThe build `{}` refuses version {} and is left out here.\n", build.name, version.number);
+    }
+    text
+}

@@ -1,5 +1,5 @@
--- Taking the lowest piece of a height, and the lowest two: what the code's values say of the definitions. Assumes
--- nothing.
+-- Taking a piece at its place, and the pair of the lowest height that has two: what the code's values say of the
+-- definitions. Assumes nothing.
 use mathlib.Core.Bool.{Bool, false, true}
 use mathlib.Core.List.{List, [], _++_, _∷_}
 use mathlib.Core.Path.{_∙_, _≡_, ap, ap₂, refl, sym}
@@ -7,8 +7,8 @@ use Prim.Native.Nat.{_<_, _≤_, suc, ℕ}
 use native.Mathlib.Omega.{arith}
 use lib.ListN.{drop, getD, length, take}
 use lib.Seq.{getD-take, length-take-le}
-use Rattle.layout.specs.Adding.{Taken, keeping, nothing, takeFirst, takeOfHeight, taken}
-use Rattle.layout.specs.Removing.{MergePair, fewer, mergePair, pair, secondOf, withLower}
+use Rattle.layout.specs.Adding.{Taken, keeping, nothing, takeFirst, taken}
+use Rattle.layout.specs.Removing.{MergePair, fewer, mergePair, pair}
 use Rattle.section.specs.declared.Section.{Section}
 use Rattle.piece.specs.Packed.{sectionIn}
 use Rattle.free_pieces.specs.Free.{freeOf, lowestPair, pairOf, takenOf}
@@ -17,7 +17,7 @@ use Rattle.free_pieces.specs.declared.Drawn.{Drawn}
 use Rattle.free_pieces.specs.declared.Pair.{Pair}
 
 -- what is taken stands at the first place that passes the test
-take-at : (q : Section → Bool) (d : Section) (l : List Section) → firstPlace q l < length l
+pub take-at : (q : Section → Bool) (d : Section) (l : List Section) → firstPlace q l < length l
     → takeFirst q l ≡ taken (getD l (firstPlace q l) d) (withoutAt (firstPlace q l) l)
 unfolding takeFirst firstPlace withoutAt
 take-at q d [] p = absurd (omega arith)
@@ -35,7 +35,7 @@ take-at q d (a ∷ l) p = go (q a) p (λ lt. take-at q d l lt)
     go true lt ih = refl
     go false lt ih = ap (keeping a) (ih (omega arith))
 
-take-none : (q : Section → Bool) (l : List Section) → length l ≤ firstPlace q l → takeFirst q l ≡ nothing
+pub take-none : (q : Section → Bool) (l : List Section) → length l ≤ firstPlace q l → takeFirst q l ≡ nothing
 unfolding takeFirst firstPlace
 take-none q [] p = refl
 take-none q (a ∷ l) p = go (q a) p (λ le. take-none q l le)
@@ -68,36 +68,9 @@ pub drawn-not : (d : Drawn) → d .found ≡ false → takenOf d ≡ nothing
 unfolding takenOf
 drawn-not d e = rw e
 
--- ---- the lowest two of a height, by taking twice
+-- ---- the pair of a height
 
-second-is : (l : Section) (b : Drawn)
-    → pairOf (record { found = b .found; lower = l; upper = sectionIn (b .piece); others = b .rest })
-    ≡ withLower l (takenOf b)
-unfolding pairOf takenOf
-second-is l b = go (b .found)
-  where
-    go : (t : Bool)
-        → elim t as (λ _. MergePair) [ true ↦ pair l (sectionIn (b .piece)) (freeOf (b .rest)) | false ↦ fewer ]
-        ≡ withLower l
-        (elim t as (λ _. Taken) [ true ↦ taken (sectionIn (b .piece)) (freeOf (b .rest)) | false ↦ nothing ])
-    go true = refl
-    go false = refl
-
-module _ (h : ℕ) (free : List Section) (a : Drawn) (ea : takenOf a ≡ takeOfHeight h free) where
-  pub pair-is : (b : Drawn) → a .found ≡ true → takenOf b ≡ takeOfHeight h (freeOf (a .rest))
-      → pairOf (record
-      { found = b .found; lower = sectionIn (a .piece); upper = sectionIn (b .piece); others = b .rest })
-      ≡ mergePair h free
-  unfolding mergePair
-  pair-is b f eb =
-      second-is (sectionIn (a .piece)) b
-      ∙ (ap (withLower (sectionIn (a .piece))) eb ∙ ap (secondOf h) (sym (drawn-there a f) ∙ ea))
-
-  pub fewer-is : a .found ≡ false → fewer ≡ mergePair h free
-  unfolding mergePair
-  fewer-is f = ap (secondOf h) (sym (drawn-not a f) ∙ ea)
-
-pair-found : (p : Pair) → p .found ≡ true → pairOf p ≡ pair (p .lower) (p .upper) (freeOf (p .others))
+pub pair-found : (p : Pair) → p .found ≡ true → pairOf p ≡ pair (p .lower) (p .upper) (freeOf (p .others))
 unfolding pairOf
 pair-found p e = rw e
 

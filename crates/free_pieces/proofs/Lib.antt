@@ -1,6 +1,7 @@
 -- Laws of arrays and of the free pieces, and the proofs of the functions.
 pub mod Draws
 pub mod Fewer
+pub mod PairPlaces
 pub mod PieceTaken
 pub mod LaidMore
 pub mod PiecesLaid

@@ -3,3 +3,4 @@ pub mod Free
 pub mod Taking
 pub mod Allocating
 pub mod Gaps
+pub mod Pairs

@@ -1,167 +1,94 @@
--- `Free::lowest_pair` takes the pair of the lowest height that has two, as the definition does. The outer loop's
--- invariant: the pair of the heights from `h` up is that of all heights. The inner loop counts the pieces of height
--- `h`: after `j` turns those among the first `j`. Assumes nothing.
-use mathlib.Core.Bool.{false}
-use mathlib.Core.Logic.{inl, inr}
-use mathlib.Core.Path.{_∙_, _≡_, ap, refl, sym}
-use Prim.Native.Nat.{_+_, _-_, _≤_, ℕ}
+-- `Free::lowest_pair` takes the pair of the lowest height that has two, as the definition does: at the places where
+-- the two stand. Assumes nothing.
+use mathlib.Core.Path.{_∙_, _≡_}
+use Prim.Native.Nat.{_+_, _-_, ℕ}
 use native.Mathlib.Omega.{arith}
-use lib.ListN.{length, take}
-use lib.Seq.{length-take-le}
+use lib.ListN.{length}
 use borrow.Author.Needs.{needs}
 use Rattle.section.specs.Limits.{heightCount}
-use Rattle.layout.proofs.Splitting.{countOf}
-use Rattle.section.specs.Sections.{section}
-use Rattle.piece.specs.Packed.{seen}
-use Rattle.piece.proofs.Seen.{seen-get, seen-length}
-use Rattle.piece_lists.proofs.Arrays.{length-of-mapped}
-use Rattle.free_pieces.proofs.Draws.{pair-end, pair-here, pair-on}
-use Rattle.free_pieces.proofs.Fewer.{count-other, count-same, few-pair}
-use Rattle.free_pieces.specs.Free.{freeOf, lowestPair, pairOf, freePlaces}
+use Rattle.layout.specs.Layout.{hasHeight}
+use Rattle.piece_lists.proofs.Arrays.{length-of-mapped, place-all}
+use Rattle.free_pieces.proofs.Draws.{pair-end, pair-here}
+use Rattle.free_pieces.proofs.PairPlaces.{free-length, low-there, lowest-places}
+use Rattle.free_pieces.specs.Free.{freeOf, freePlaces, pairOf}
 use Rattle.free_pieces.proofs.Free.lowest_pair.Statement.{statement}
 use Rattle.free_pieces.proofs.Free.lowest_pair.Tie as tie
 
-abbrev Inv-pieces : tie.InvT-pieces
-Inv-pieces self s m h n₀ j₀ n j =
-    (length (self .items) ≡ freePlaces) × (m ≡ self .count) × (m ≤ freePlaces) × (j ≤ m) × (n ≤ j)
-    × (n ≡ countOf h (take j (seen (self .items))))
+height-due-requires : tie.Need-height-due-requires
+height-due-requires c κs = search needs
 
-abbrev μ-pieces : tie.MeasureT-pieces
-μ-pieces self s m h n₀ j₀ n j = m - j
-
-abbrev Inv-heights : tie.InvT-heights
-Inv-heights self s m h₀ h =
-    (length (self .items) ≡ freePlaces) × (m ≡ self .count) × (h ≤ heightCount)
-    × (lowestPair (heightCount - h) h (freeOf self) ≡ lowestPair heightCount 0 (freeOf self))
-
-abbrev μ-heights : tie.MeasureT-heights
-μ-heights self s m h₀ h = heightCount - h
-
-heights-holds : tie.Need-heights-holds Inv-pieces μ-pieces Inv-heights μ-heights
-heights-holds c =
-    let e : length (c .args .t1 .items) ≡ freePlaces = search (needs, length-of-mapped) in
-    (e, refl, omega arith, refl)
-
-pieces-holds : tie.Need-pieces-holds Inv-pieces μ-pieces Inv-heights μ-heights
-pieces-holds c = (c .before .heights .inv .0, refl, c .before .before .pre, omega arith, omega arith, refl)
-
-mul-piece : tie.Need-mul-piece Inv-pieces μ-pieces Inv-heights μ-heights
-mul-piece c = search needs
-
-element-copy-out-piece : tie.Need-element-copy-out-piece Inv-pieces μ-pieces Inv-heights μ-heights
-element-copy-out-piece c = search needs
-
-height-requires : tie.Need-height-requires Inv-pieces μ-pieces Inv-heights μ-heights
-height-requires c κs = search needs
-
-add-n : tie.Need-add-n Inv-pieces μ-pieces Inv-heights μ-heights
-add-n c = search needs
-
-add-j : tie.Need-add-j Inv-pieces μ-pieces Inv-heights μ-heights
-add-j c = search needs
-
-pieces-less : tie.Need-pieces-less Inv-pieces μ-pieces Inv-heights μ-heights
-pieces-less c = search needs
-
-pieces-again : tie.Need-pieces-again Inv-pieces μ-pieces Inv-heights μ-heights
-pieces-again c =
-    let words = c .before .before .before .before .before .before .before .args .t1 .items in
-    let items = seen words in
-    let n = seen-length words in
-    let h = c .before .before .before .before .before .before .heights .h in
-    let l = c .before .before .before .before .pieces in
-    let v = l .inv in
-    let y = ap (λ z. z .height .value) (seen-get words (l .j)) ∙ sym (c .before .height .ensures) in
-    let next = elim (c .if1 .came)
-    as (λ _. (c .if1 .n ≤ l .j + 1) × (c .if1 .n ≡ countOf h (take (l .j + 1) items))) [
-      | inl x ↦ (
-        omega (arith, x .1, v .4),
-        x .1 ∙ count-same h items (l .j) (section 0 0) (omega arith) (l .n) (v .5) (y ∙ x .0 .taken),
-      )
-      | inr x ↦ (
-        omega (arith, x .1, v .4),
-        x .1 ∙ count-other h items (l .j) (section 0 0) (omega arith) (l .n) (v .5) (λ z. x .0 .left (sym y ∙ z)),
-      )
-    ] in
-    (v .0, refl, v .2, omega arith, next .0, next .1)
-
-lowest-two-requires : tie.Need-lowest-two-requires Inv-pieces μ-pieces Inv-heights μ-heights
-lowest-two-requires c κs = search needs
-
-returns : tie.Need-returns Inv-pieces μ-pieces Inv-heights μ-heights
+returns : tie.Need-returns
+unfolding pairOf
 returns c =
-    let self = c .before .before .before .before .before .before .before .args .t1 in
-    let l = c .before .before .before .before .before .before .heights in
-    let p = c .before .lowest-two in
+    let a = c .before .before .args in
+    let h = c .before .height-due .result in
+    let e : length (a .self .items) ≡ freePlaces = search (needs, length-of-mapped) in
     record {
       meaning =
-          pair-here (heightCount - (l .h + 1)) (l .h) (freeOf self) (p .result) (p .ensures .meaning)
-          (heightCount - l .h) (omega arith) (c .if3 .taken)
-          ∙ l .inv .3;
-      exact = p .ensures .exact;
-      less = p .ensures .less;
+          pair-end (heightCount - h) h (freeOf (a .self)) (omega (arith, c .if1 .taken))
+          ∙ c .before .height-due .ensures .here;
+      exact = free-length (a .self) e (c .before .before .pre);
+      less = λ x. let z : _≡_ {A = ℕ} 0 1 = cc in absurd (omega arith);
     }
 
-add-h : tie.Need-add-h Inv-pieces μ-pieces Inv-heights μ-heights
-add-h c = search needs
+place-from-requires : tie.Need-place-from-requires
+place-from-requires c κs = search needs
 
-heights-less : tie.Need-heights-less Inv-pieces μ-pieces Inv-heights μ-heights
-heights-less c = search needs
+add-place-from : tie.Need-add-place-from
+add-place-from c = search needs
 
-heights-again : tie.Need-heights-again Inv-pieces μ-pieces Inv-heights μ-heights
-unfolding pairOf freeOf
-heights-again c =
-    let self = c .before .before .before .before .before .args .t1 in
-    let free = freeOf self in
-    let l = c .before .before .before .before .heights in
-    let h = l .h in
-    let k = c .before .before .pieces in
-    let s = section 0 0 in
-    let all : k .j ≡ self .count = omega (arith, k .inv .3, c .before .pieces-test .left) in
-    let count : k .n ≡ countOf h free = k .inv .5 ∙ ap (λ i. countOf h (take i (seen (self .items)))) all in
-    let next = elim (c .if2 .came) as
-    (λ _. lowestPair (heightCount - (h + 1)) (h + 1) free ≡ lowestPair (heightCount - h) h free) [
-      | inl x ↦ pair-on (heightCount - (h + 1)) h free (x .1 .result) (x .1 .ensures .meaning) (heightCount - h)
-          (h + 1) (omega arith)
-          (omega arith) (x .2 .left)
-      | inr x ↦ pair-on (heightCount - (h + 1)) h free (record { found = false; lower = s; upper = s; others = self })
-          (few-pair h free (omega (arith, count, x .left))) (heightCount - h) (h + 1) (omega arith)
-          (omega arith) refl
-    ] in
-    (l .inv .0, refl, omega arith, next ∙ l .inv .3)
+place-from-requires-2 : tie.Need-place-from-requires-2
+place-from-requires-2 c κs =
+    let a = c .before .before .before .args .self in
+    let d = c .before .before .height-due in
+    let e : length (a .items) ≡ freePlaces = search (needs, length-of-mapped) in
+    let low = place-all (hasHeight (d .result)) (freeOf a) 0 _ (c .place-from .ensures .place) (omega arith) in
+    let there = low-there (d .result) (freeOf a) (d .ensures .two (omega (arith, c .before .if1 .left))) in
+    (c .before .before .before .pre, omega (arith, low, there, free-length a e (c .before .before .before .pre)))
 
-returns-2 : tie.Need-returns-2 Inv-pieces μ-pieces Inv-heights μ-heights
-unfolding pairOf freeOf
+sub-pair-at : tie.Need-sub-pair-at
+sub-pair-at c = search needs
+
+pair-at-requires : tie.Need-pair-at-requires
+pair-at-requires c κs =
+    let a = c .before .before .before .before .args .self in
+    let d = c .before .before .before .height-due in
+    let e : length (a .items) ≡ freePlaces = search (needs, length-of-mapped) in
+    let n = free-length a e (c .before .before .before .before .pre) in
+    let low = place-all (hasHeight (d .result)) (freeOf a) 0 _ (c .before .place-from .ensures .place) (omega arith) in
+    let q = lowest-places (d .result) (freeOf a) (d .ensures .two (omega (arith, c .before .before .if1 .left)))
+    (c .before .place-from .result) (c .place-from2 .result) low (c .place-from2 .ensures .place) in
+    (c .before .before .before .before .pre, (omega (arith, q .lower, n), omega (arith, q .upper, n)))
+
+returns-2 : tie.Need-returns-2
 returns-2 c =
-    let self = c .before .before .args .t1 in
-    let l = c .before .heights in
+    let a = c .before .before .before .before .before .args .self in
+    let d = c .before .before .before .before .height-due in
+    let h = d .result in
+    let r = c .pair-at in
+    let lt = c .before .before .before .if1 .left in
+    let low = place-all (hasHeight h) (freeOf a) 0 _ (c .before .before .place-from .ensures .place) (omega arith) in
+    let q = lowest-places h (freeOf a) (d .ensures .two (omega (arith, lt)))
+    (c .before .before .place-from .result) (c .before .place-from2 .result) low
+    (c .before .place-from2 .ensures .place) in
     record {
-      meaning = pair-end (heightCount - l .h) (l .h) (freeOf self) (omega arith) ∙ l .inv .3;
-      exact = length-take-le (self .count) (seen (self .items))
-          (omega (arith, seen-length (self .items), l .inv .0, c .before .before .pre));
-      less = λ x. let z : _≡_ {A = ℕ} 0 1 = cc in absurd (omega arith);
+      meaning =
+          pair-here (heightCount - (h + 1)) h (freeOf a) (r .result) (q .pairs _ (r .result) (r .ensures))
+          (heightCount - h) (omega (arith, lt)) (r .ensures .found)
+          ∙ d .ensures .here;
+      exact = r .ensures .exact;
+      less = λ _. r .ensures .less;
     }
 
 pub lowest-pair-spec : {M : Type 1} → statement M
 lowest-pair-spec =
     tie.close
     (tie.spec
-    Inv-pieces
-    μ-pieces
-    Inv-heights
-    μ-heights
-    heights-holds
-    pieces-holds
-    mul-piece
-    element-copy-out-piece
-    height-requires
-    add-n
-    add-j
-    pieces-less
-    pieces-again
-    lowest-two-requires
+    height-due-requires
     returns
-    add-h
-    heights-less
-    heights-again
+    place-from-requires
+    add-place-from
+    place-from-requires-2
+    sub-pair-at
+    pair-at-requires
     returns-2)

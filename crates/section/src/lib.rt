@@ -1,4 +1,5 @@
-// Section arithmetic: heights and lengths, sections of a disk and their buddies. Operations on bits stand here alone.
+// Section arithmetic: heights and lengths, sections of a disk and their buddies. Operations on the bits of
+// block numbers stand here alone.
 //
 // Which numbers are served. `Height::of_length` takes any number and refuses what is no length by its answer.
 // `is_on_disk` takes any first block and any number of blocks. Every other function asks for what a section of a disk

@@ -12,16 +12,20 @@ pub struct Settled {
 }
 
 // Merges while a height has two free pieces. The files are moved where they stand, since a table that is passed on is
-// copied.
+// copied. The free pieces stand beside the table until the end for the same reason, and the next pair is asked for in
+// one place, so that the compiler puts the search there.
 pub fn settle(disk: &mut [u8], table: Table) -> Settled
     requires { ⌜ CanSettle table (length (now disk)) ⌝ }
     ensures { λ r. ⌜ Settles table (now (disk .entry)) (now (disk .exit)) r ⌝ }
 {
     let mut t = table;
     let mut copied: u32 = 0;
-    let free = t.free;
-    let mut p = free.lowest_pair();
-    'merges: while p.found {
+    let mut free = t.free;
+    'merges: loop {
+        let p = free.lowest_pair();
+        if !p.found {
+            break;
+        }
         let made = blocks::copy_merge(disk, p);
         copied += made;
         let lower = p.lower;
@@ -38,9 +42,8 @@ pub fn settle(disk: &mut [u8], table: Table) -> Settled
             }
             i += 1;
         }
-        let left = free_merged(p);
-        t.free = left;
-        p = left.lowest_pair();
+        free = free_merged(p);
     }
+    t.free = free;
     Settled { table: t, copied }
 }

@@ -1,69 +1,75 @@
--- `settling::settle` meets its contract: after each turn some of the merges are made, with their copies. The
--- inner loop moves the files of the table for one merge. Assumes nothing.
+-- `settling::settle` meets its contract: after each turn some of the merges are made, with their copies, in the table
+-- with the free pieces that stand beside it. The inner loop moves the files of the table for one merge. Assumes
+-- nothing.
 use mathlib.Core.Logic.{inl, inr}
 use mathlib.Core.Path.{_≡_, ap, refl, subst, sym}
 use Prim.Native.Nat.{ℕ, _*_, _+_, _-_}
 use native.Mathlib.Omega.{arith}
 use lib.ListN.{length}
 use borrow.Author.Needs.{needs}
-use Rattle.section.specs.Limits.{blockSize, heightCount, mostFiles}
+use borrow.Author.Tests.{not-false, not-true}
+use Rattle.section.specs.Limits.{blockSize, mostFiles}
 use Rattle.piece_lists.proofs.Arrays.{length-of-mapped}
-use Rattle.free_pieces.specs.Free.{Pairs, freeOf, lowestPair}
 use Rattle.table.proofs.FilesMoving.{FilesMoving, moving-can, moving-end, moving-kept, moving-long}
 use Rattle.table.specs.declared.Table.{Table}
 use Rattle.table.proofs.FilesMoving.{moving-more, moving-places, moving-start}
+use Rattle.settling.proofs.FreeBeside.{moving-beside, ready-beside, withFree}
 use Rattle.settling.proofs.Settling.{Settling, settling-start, settling-ready, settling-copies, settling-more}
 use Rattle.settling.proofs.Settling.{settling-countable, settling-end}
 use Rattle.settling.proofs.settle.Statement.{statement}
 use Rattle.settling.proofs.settle.Tie as tie
 
+-- the free pieces of before the merge are at hand no more, so the pair's others stand for them
 abbrev Inv-files : tie.InvT-files
-Inv-files disk t₀ copied p made upper buddy m i₀ t i = FilesMoving p buddy upper m t₀ t i
+Inv-files disk t₀ copied p made upper buddy m i₀ t i = FilesMoving p buddy upper m (withFree t₀ (p .others)) t i
 
 abbrev μ-files : tie.MeasureT-files
 μ-files disk t₀ copied p made upper buddy m i₀ t i = m - i
 
 abbrev Inv-merges : tie.InvT-merges
-Inv-merges disk₀ t₀ copied₀ p₀ disk t copied p =
-    Settling t₀ disk₀ t disk copied × Pairs (t .free .count) (lowestPair heightCount 0 (freeOf (t .free))) p
-    × (length (t .files) ≡ mostFiles)
+Inv-merges disk₀ t₀ copied₀ free₀ disk t copied free =
+    Settling (withFree t₀ free₀) disk₀ (withFree t free) disk copied × (length (t .files) ≡ mostFiles)
 
 abbrev μ-merges : tie.MeasureT-merges
-μ-merges disk₀ t₀ copied₀ p₀ disk t copied p = t .free .count
-
-lowest-pair-requires : tie.Need-lowest-pair-requires Inv-files μ-files Inv-merges μ-merges
-lowest-pair-requires c κs = c .before .before .pre .sized .free
+μ-merges disk₀ t₀ copied₀ free₀ disk t copied free = free .count
 
 merges-holds : tie.Need-merges-holds Inv-files μ-files Inv-merges μ-merges
 merges-holds c =
-    let a = c .before .before .before in
+    let a = c .before .before in
     let long : length (a .args .table .files) ≡ mostFiles = search (needs, length-of-mapped) in
-    (settling-start (a .args .table) (a .args .disk .now) (a .pre), c .lowest-pair .ensures, long)
+    (settling-start (a .args .table) (a .args .disk .now) (a .pre), long)
+
+lowest-pair-requires : tie.Need-lowest-pair-requires Inv-files μ-files Inv-merges μ-merges
+lowest-pair-requires c κs = c .merges .inv .0 .sized .free
 
 copy-merge-requires : tie.Need-copy-merge-requires Inv-files μ-files Inv-merges μ-merges
 copy-merge-requires c κs =
-    let v = c .before .before .merges .inv in (
-      settling-copies _ _ _ _ _ (v .0) _ (v .1) (c .before .merges-test .taken),
-      settling-countable _ _ _ _ _ (v .0) _ (v .1) (c .before .merges-test .taken),
-    )
+    let j = c .before in
+    let v = j .before .before .before .merges .inv .0 in
+    let ps = j .before .before .lowest-pair .ensures in
+    let found = not-false _ (j .if1 .left) in
+    (settling-copies _ _ _ _ _ v _ ps found, settling-countable _ _ _ _ _ v _ ps found)
 
 add-copied : tie.Need-add-copied Inv-files μ-files Inv-merges μ-merges
 add-copied c =
-    let v = c .before .before .before .before .before .merges .inv in
-    omega (arith, v .0 .bounded, c .before .before .copy-merge .ensures .most)
+    let v = c .before .before .before .before .before .before .before .merges .inv .0 in
+    omega (arith, v .bounded, c .before .before .copy-merge .ensures .most)
 
 buddy-requires : tie.Need-buddy-requires Inv-files μ-files Inv-merges μ-merges
 buddy-requires c κs =
-    let l = c .before .before .before .before .before .before .before .merges in
-    let t = c .before .before .before .before .before .before .merges-test in
-    settling-ready _ _ _ _ _ (l .inv .0) _ (l .inv .1) (t .taken) .lower .0
+    let j = c .before .before .before .before .before .before in
+    let v = j .before .before .before .merges .inv .0 in
+    settling-ready _ _ _ _ _ v _ (j .before .before .lowest-pair .ensures) (not-false _ (j .if1 .left)) .lower .0
 
 files-holds : tie.Need-files-holds Inv-files μ-files Inv-merges μ-merges
 files-holds c =
-    let l = c .before .before .before .before .before .before .before .before .merges in
-    let t = c .before .before .before .before .before .before .before .merges-test in
-    let a = settling-ready _ _ _ _ _ (l .inv .0) _ (l .inv .1) (t .taken) in
-    moving-start (l .p) (c .buddy .result) (l .p .upper) (l .t) a (c .buddy .ensures) refl (l .inv .2)
+    let j = c .before .before .before .before .before .before .before in
+    let l = j .before .before .before .merges in
+    let p = j .before .before .lowest-pair in
+    let a = settling-ready _ _ _ _ _ (l .inv .0) _ (p .ensures) (not-false _ (j .if1 .left)) in
+    let t = withFree (l .t) (l .free) in
+    moving-beside _ _ _ _ t t _ (p .result .others) (l .t .free) (ready-beside t _ _ a (omega (arith, a .few)))
+    (moving-start (p .result) (c .buddy .result) (p .result .upper) t a (c .buddy .ensures) refl (l .inv .1))
 
 mul-e : tie.Need-mul-e Inv-files μ-files Inv-merges μ-merges
 mul-e c = search needs
@@ -101,11 +107,13 @@ files-again c =
     let f = c .before .before .before .before .before .before .files in
     let buddy = c .before .before .before .before .before .before .before in
     let b = buddy .buddy .result in
-    let l = buddy .before .before .before .before .before .before .before .before .merges in
+    let j = buddy .before .before .before .before .before .before .before in
+    let t₀ = j .before .before .before .merges .t in
+    let p = j .before .before .lowest-pair .result in
     let lt = c .before .before .before .before .before .files-test .taken in
-    let Next : Table → Type 0 = λ r. FilesMoving (l .p) b (l .p .upper) (l .t .count) (l .t) r (f .i + 1) in
-    elim (c .if1 .came) as (λ _. Next (c .if1 .t)) [
-      | inl x ↦ moving-more _ _ _ _ _ _ _ (f .inv) (c .if1 .t) _ lt (ap (λ (r : Table). r .files) (x .2))
+    let Next : Table → Type 0 = λ r. FilesMoving p b (p .upper) (t₀ .count) (withFree t₀ (p .others)) r (f .i + 1) in
+    elim (c .if2 .came) as (λ _. Next (c .if2 .t)) [
+      | inl x ↦ moving-more _ _ _ _ _ _ _ (f .inv) (c .if2 .t) _ lt (ap (λ (r : Table). r .files) (x .2))
           (x .1 .ensures) (ap (λ (r : Table). r .count) (x .2)) (ap (λ (r : Table). r .blocks) (x .2))
       | inr x ↦ subst Next (sym (x .1))
           (moving-kept _ _ _ _ _ _ _ (f .inv) lt
@@ -115,49 +123,44 @@ files-again c =
 free-merged-requires : tie.Need-free-merged-requires Inv-files μ-files Inv-merges μ-merges
 free-merged-requires c κs = search needs
 
-lowest-pair-requires-2 : tie.Need-lowest-pair-requires-2 Inv-files μ-files Inv-merges μ-merges
-lowest-pair-requires-2 c κs = search needs
-
 merges-less : tie.Need-merges-less Inv-files μ-files Inv-merges μ-merges
 merges-less c =
-    let test = c .before .before .before .before .before .before .before .before .before .before .before in
-    let v = test .before .merges .inv in
-    omega (arith, c .before .free-merged .ensures .count, v .1 .less (test .merges-test .taken))
+    let j = c .before .before .before .before .before .before .before .before .before .before in
+    let less = j .before .before .lowest-pair .ensures .less (not-false _ (j .if1 .left)) in
+    omega (arith, c .free-merged .ensures .count, less)
 
 merges-again : tie.Need-merges-again Inv-files μ-files Inv-merges μ-merges
 merges-again c =
-    let test = c .before .before .before .before .before .before .before .before .before .before .before in
-    let l = test .before .merges in
-    let f = c .before .before .before .files in
-    let k = c .before .before .before .before .before .before .before .before .before .copy-merge in
-    let w = c .before .free-merged in
-    let t : Table = record {
-      blocks = f .t .blocks;
-      count = f .t .count;
-      files = f .t .files;
-      free = w .result;
-    } in
-    let m = moving-end _ _ _ _ _ _ _ (f .inv) (omega (arith, c .before .before .files-test .left)) t refl refl refl
+    let j = c .before .before .before .before .before .before .before .before .before .before in
+    let l = j .before .before .before .merges in
+    let ps = j .before .before .lowest-pair .ensures in
+    let found = not-false _ (j .if1 .left) in
+    let k = c .before .before .before .before .before .before .before .before .copy-merge in
+    let f = c .before .before .files in
+    let w = c .free-merged in
+    let t = withFree (f .t) (w .result) in
+    let ready = settling-ready _ _ _ _ _ (l .inv .0) _ ps found in
+    let moved = moving-beside _ _ _ _ _ _ _ (l .free) (f .t .free) ready (f .inv) in
+    let m = moving-end _ _ _ _ _ _ _ moved (omega (arith, c .before .files-test .left)) t refl refl refl
     (w .ensures) in (
-      settling-more _ _ _ _ _ (l .inv .0) _ (l .inv .1) (test .merges-test .taken) _ (k .result) t (k .ensures) m,
-      c .lowest-pair2 .ensures,
+      settling-more _ _ _ _ _ (l .inv .0) _ ps found _ (k .result) t (k .ensures) m,
       moving-long _ _ _ _ _ _ _ (f .inv),
     )
 
 same-length : tie.Need-same-length Inv-files μ-files Inv-merges μ-merges
 same-length c =
-    let v = c .before .merges .inv in
+    let v = c .before .before .before .merges .inv .0 in
     omega (
       arith,
-      v .0 .long,
-      ap (λ (b : ℕ). blockSize * b) (v .0 .blocks),
-      c .before .before .before .before .before .pre .disk,
+      v .long,
+      ap (λ (b : ℕ). blockSize * b) (v .blocks),
+      c .before .before .before .before .before .before .pre .disk,
     )
 
 returns : tie.Need-returns Inv-files μ-files Inv-merges μ-merges
 returns c =
-    let v = c .before .merges .inv in
-    settling-end _ _ _ _ _ (v .0) _ (v .1) (c .merges-test .left)
+    let v = c .before .before .before .merges .inv .0 in
+    settling-end _ _ _ _ _ v _ (c .before .before .lowest-pair .ensures) (not-true _ (c .if1 .taken))
 
 pub settle-spec : {M : Type 1} → statement M
 settle-spec =
@@ -167,8 +170,8 @@ settle-spec =
     μ-files
     Inv-merges
     μ-merges
-    lowest-pair-requires
     merges-holds
+    lowest-pair-requires
     copy-merge-requires
     add-copied
     buddy-requires
@@ -183,7 +186,6 @@ settle-spec =
     files-less
     files-again
     free-merged-requires
-    lowest-pair-requires-2
     merges-less
     merges-again
     same-length

@@ -52,7 +52,9 @@ int64_t evdisk_format(uint8_t *cat, size_t cat_length, const uint8_t *disk, size
 int64_t evdisk_add(uint8_t *cat, size_t cat_length, uint8_t *disk, size_t disk_length, uint16_t id,
                    const uint8_t *content, size_t content_length);
 
-/* Removes a file and joins free space. Answers how many blocks were copied. */
+/* Removes a file and joins free space; two free halves of one section are joined first, and nothing is copied for them.
+ * Answers how many blocks were copied: at most the sum of the place values at which the free blocks plus the file's
+ * blocks carry in binary. */
 int64_t evdisk_remove(uint8_t *cat, size_t cat_length, uint8_t *disk, size_t disk_length, uint16_t id);
 
 /* Fills out with pages of a file, from the page first on; pages count from 0. Answers how many pages out has. */

@@ -1,18 +1,18 @@
 /*
- * Cases 4 to 8 and some refusals of the scope document with either catalogue, by the C header alone. Ends with status 1
- * and says where, if a call gives back another number or other bytes.
+ * Cases 4 to 8 of the scope document, a removal that finds free buddies, and some refusals with either catalogue, by
+ * the C header alone. Ends with status 1 and says where, if a call gives back another number or other bytes.
  */
 #include <stdio.h>
 #include <string.h>
 
 #include "evdisk.h"
 
-enum { BLOCKS = 16, DISK = BLOCKS * EVDISK_BLOCK };
+enum { BLOCKS = 16, DISK = BLOCKS * EVDISK_BLOCK, FEW = 8 };
 
 /* A byte more than the large catalogue, and a block more than the small catalogue's greatest disk. */
 static uint8_t cat[EVDISK_LARGE_CATALOGUE + 1], disk[(EVDISK_MOST_BLOCKS + 1) * EVDISK_BLOCK];
 static uint8_t content[DISK], out[DISK];
-static size_t cat_length;
+static size_t cat_length, disk_length = DISK;
 static int wrong;
 
 static void expect(const char *what, int64_t got, int64_t want)
@@ -27,17 +27,17 @@ static void expect(const char *what, int64_t got, int64_t want)
 static int64_t add(uint16_t id, size_t pages)
 {
   memset(content, id, pages * EVDISK_BLOCK);
-  return evdisk_add(cat, cat_length, disk, DISK, id, content, pages * EVDISK_BLOCK);
+  return evdisk_add(cat, cat_length, disk, disk_length, id, content, pages * EVDISK_BLOCK);
 }
 
 static int64_t removed(uint16_t id)
 {
-  return evdisk_remove(cat, cat_length, disk, DISK, id);
+  return evdisk_remove(cat, cat_length, disk, disk_length, id);
 }
 
 static int64_t read(uint16_t id, uint64_t first, size_t pages)
 {
-  return evdisk_read(cat, cat_length, disk, DISK, id, first, out, pages * EVDISK_BLOCK);
+  return evdisk_read(cat, cat_length, disk, disk_length, id, first, out, pages * EVDISK_BLOCK);
 }
 
 static void expect_pages(uint16_t id, size_t pages)
@@ -79,6 +79,25 @@ static void case_8(void)
   expect("last place of 7", disk[7 * EVDISK_BLOCK], 7);
 }
 
+/* On a disk of 8 blocks: two free halves of one section are joined first, so that file 2 stays where it is. */
+static void free_buddies(void)
+{
+  disk_length = FEW * EVDISK_BLOCK;
+  expect("format of 8 blocks", evdisk_format(cat, cat_length, disk, disk_length), FEW);
+  expect("add 1", add(1, 1), 1);
+  expect("add 2", add(2, 2), 2);
+  expect("add 3", add(3, 3), 3);
+  expect("remove 1", removed(1), 0);
+  expect("remove 3", removed(3), 0);
+  expect_pages(2, 2);
+  expect("first place of 2", disk[2 * EVDISK_BLOCK], 2);
+  expect("last place of 2", disk[3 * EVDISK_BLOCK], 2);
+  expect("place of 3, which is free", disk[4 * EVDISK_BLOCK], 3);
+  expect("add 4 of 4 blocks", add(4, 4), 4);
+  expect("place of 4", disk[4 * EVDISK_BLOCK], 4);
+  disk_length = DISK;
+}
+
 /* Refusals on the disk of case 7. */
 static void refusals(void)
 {
@@ -99,6 +118,7 @@ static void with_catalogue(size_t length, uint8_t version)
   case_6();
   expect("version", cat[0] * 256 + cat[1], version);
   case_8();
+  free_buddies();
   case_6();
   case_7();
   refusals();

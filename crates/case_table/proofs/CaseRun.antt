@@ -18,8 +18,8 @@ use Rattle.layout.specs.Adding.{allocate, takeFirst, takePiece}
 use Rattle.layout.specs.Layout.{File, Found, Layout, blockRun, blocksOf, breaksOf, filePieces, findFile, found}
 use Rattle.layout.specs.Layout.{freshLayout, inRange, missing, piecesFrom}
 use Rattle.layout.specs.Lists.{insertBy, sortBy}
-use Rattle.layout.specs.Removing.{Copy, copiesFrom, copiesOf, copyRun, insertAll, layoutAfter, merge, mergeAll}
-use Rattle.layout.specs.Removing.{mergePair, nextMerge, release, removal, withoutFile}
+use Rattle.layout.specs.Removing.{Copy, buddyPair, copiesFrom, copiesOf, copyRun, insertAll, layoutAfter, lowestTwo}
+use Rattle.layout.specs.Removing.{merge, mergeAll, mergePair, nextMerge, release, removal, withoutFile}
 use Rattle.case_table.proofs.CaseRows.{FileSeen, Row, Seen, Start, filledBlocks, freshDisk, givenLayout}
 use Rattle.case_table.proofs.CaseRows.{untouched}
 use Rattle.manager.specs.Call.{Call, add, breaks, check, free, read, remove}
@@ -74,10 +74,11 @@ expected r =
 unfoldable pub performed : Call → List ℕ → List ℕ → Outcome
 unfolding onesIn ones buddyFirst parentFirst isAligned isOnDisk sharesBlock isInside movedInto takeFirst takePiece
     allocate filePieces blockRun blocksOf breaksOf findFile inRange piecesFrom freshLayout insertBy sortBy copyRun
-    copiesFrom mergePair merge nextMerge mergeAll copiesOf layoutAfter insertAll withoutFile release removal bigEndian
-    pairBytes pairsBytes entryBytes entriesBytes headerBytes usedBytes encode every pairwise isSound readFrom readPair
-    readPairs fileRead readEntry readEntries readHeader readLayout judged readCatalogue pagesOn cutPages joinPages
-    writePages runCopies firstRefusal formatIn addIn removeIn readIn breaksIn freeIn checkIn versionFor heightOf
+    copiesFrom buddyPair lowestTwo mergePair merge nextMerge mergeAll copiesOf layoutAfter insertAll withoutFile
+    release removal bigEndian pairBytes pairsBytes entryBytes entriesBytes headerBytes usedBytes encode every pairwise
+    isSound readFrom readPair readPairs fileRead readEntry readEntries readHeader readLayout judged readCatalogue
+    pagesOn cutPages joinPages writePages runCopies firstRefusal formatIn addIn removeIn readIn breaksIn freeIn
+    checkIn versionFor heightOf
 performed c cat d = perform c cat d
 
 -- the buffers, and what was seen so far

@@ -1,5 +1,6 @@
 -- Cases 1 to 11 of document 01, "Small disks by hand", as one table, written out by hand; case 7 with the copies of
--- document 02, W2. Further rows have reads of parts, calls that are refused, and the removals of `mergeRows`.
+-- document 02, W2. Further rows have reads of parts, calls that are refused, and the removals of `mergeRows` and of
+-- `buddyRows`.
 -- `cases-hold` of `Cases` computes all rows together. Assumes nothing.
 use mathlib.Core.List.{List, [], _++_, _∷_}
 use lib.ListN.{replicate}
@@ -9,6 +10,7 @@ use Rattle.case_table.proofs.CaseRows.{givenLayout, laidOut, layoutBefo
 use Rattle.case_table.proofs.CaseRows.{layoutFive, layoutFour, layoutSeven, layoutSix, pagesRead, pairAt}
 use Rattle.case_table.proofs.CaseRows.{readRefused, refuse, untouched, upToFive, upToFour, upToSeven}
 use Rattle.case_table.proofs.CaseRows.{upToSix}
+use Rattle.case_table.proofs.BuddyRows.{buddyRows}
 use Rattle.case_table.proofs.MergeRows.{mergeRows}
 use Rattle.manager.specs.Call.{add, breaks, check, free, read, remove}
 
@@ -183,4 +185,4 @@ caseTable =
       files = fileTwo ∷ fileNineMoved ∷ [];
       disk = 80 ∷ 81 ∷ 82 ∷ 144 ∷ 32 ∷ 33 ∷ 255 ∷ 144 ∷ asBefore 8;
     }
-    ∷ mergeRows
+    ∷ mergeRows ++ buddyRows

@@ -1,47 +1,27 @@
 -- The blocks of a section that are in none of the pieces inside it, as runs between them. Assumes nothing.
 use mathlib.Core.Bool.{Bool, cond, false, true}
 use mathlib.Core.List.{List, [], _++_, _∷_}
-use mathlib.Core.Logic.{inl, inr}
 use mathlib.Core.Path.{_∙_, _≡_, ap, ap₂, refl, sym}
 use Prim.Native.Nat.{_+_, _-_, _<_, _≤_, suc, zero, ℕ}
 use native.Mathlib.Omega.{arith}
 use lib.Dec.{eqb}
-use lib.Pow.{pow-pos}
 use borrow.Author.Tests.{eq-eqb, ne-eqb}
 use Rattle.section.specs.declared.Section.{Section}
-use Rattle.section.specs.Sections.{Apart, endOf, isInside, lengthOf}
+use Rattle.section.specs.Sections.{endOf, isInside, lengthOf}
 use Rattle.section.proofs.Answers.{inside-iff}
 use Rattle.section.proofs.Nested.{Placed}
-use Rattle.layout.specs.Layout.{holdsBlock}
-use Rattle.layout.specs.Lists.{Each, done, more, next, none, sumOf}
+use Rattle.layout.specs.Layout.{InOrder, holdsBlock}
+use Rattle.layout.specs.Lists.{Each, done, more, next, sumOf}
 use Rattle.layout.specs.Removing.{Copy, copiesFrom, copyRun}
 use Rattle.layout.proofs.CopiesFrom.{from-append, from-failed, from-none, from-passed}
-use Rattle.layout.proofs.Lists.{each-and, each-imp, sum-ge-all}
+use Rattle.layout.proofs.Lists.{each-imp}
 use Rattle.layout.proofs.Moving.{placed-off}
-use Rattle.layout.proofs.Ranges.{inRange-above, inRange-apart, inRange-below, inRange-inside}
-use Rattle.layout.proofs.Taking.{Rising}
-use Rattle.free_pieces.specs.Gaps.{InOrder, gapCopies}
+use Rattle.layout.proofs.Ranges.{inRange-above, inRange-below, inRange-inside}
+use Rattle.free_pieces.specs.Gaps.{gapCopies}
 
 sum-none : (x : ℕ) {l : List Section} → Each (λ s. holdsBlock x s ≡ 0) l → sumOf (holdsBlock x) l ≡ 0
 sum-none x done = refl
 sum-none x (more {a = s} p e) = omega (arith, sum-none x e)
-
--- pieces by rising first block of which no two hold a block
-pub in-order : (l : List Section) → Rising l → ((x : ℕ) → sumOf (holdsBlock x) l ≤ 1) → InOrder l
-in-order [] none t = none
-in-order (s ∷ l) (next q r) t =
-    next (each-imp (λ b w. one b (w .0) (w .1)) (each-and q (sum-ge-all holdsBlock l)))
-    (in-order l r (λ x. omega (arith, t x)))
-  where
-    one : (b : Section) → s .first ≤ b .first → ((x : ℕ) → holdsBlock x b ≤ sumOf (holdsBlock x) l)
-        → endOf s ≤ b .first
-    one b le g =
-        go (inRange-apart (s .first) (lengthOf s) (b .first) (lengthOf b) (pow-pos (s .height .value))
-        (pow-pos (b .height .value)) (λ x. omega (arith, t x, g x)))
-      where
-        go : Apart (s .first) (lengthOf s) (b .first) (lengthOf b) → endOf s ≤ b .first
-        go (inl p) = p
-        go (inr p) = absurd (omega (arith, pow-pos (b .height .value)))
 
 -- ---- runs
 

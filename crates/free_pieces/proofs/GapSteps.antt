@@ -18,7 +18,8 @@ use Rattle.piece.specs.declared.Piece.{Piece}
 use Rattle.piece.proofs.Seen.{seen-get, seen-length}
 use Rattle.piece_lists.proofs.Arrays.{ahead, behind}
 use Rattle.free_pieces.specs.Free.{freeOf}
-use Rattle.free_pieces.specs.Gaps.{Gaps, InOrder, PairFits, freeCopies, gapCopies, gapPast}
+use Rattle.layout.specs.Layout.{InOrder}
+use Rattle.free_pieces.specs.Gaps.{Gaps, PairFits, freeCopies, gapCopies, gapPast}
 use Rattle.free_pieces.specs.declared.Gap.{Gap}
 use Rattle.free_pieces.specs.declared.Pair.{Pair}
 

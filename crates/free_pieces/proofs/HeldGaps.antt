@@ -17,8 +17,10 @@ use Rattle.layout.specs.Removing.{copiesFrom, copyRun, isHeld, mergeCopies}
 use Rattle.section.proofs.Answers.{inside-iff}
 use Rattle.section.specs.Sections.{buddyOf, endOf, lengthOf}
 use Rattle.section.specs.declared.Section.{Section}
-use Rattle.free_pieces.proofs.GapRuns.{gaps-are, in-order}
-use Rattle.free_pieces.specs.Gaps.{InOrder, freeCopies, gapCopies}
+use Rattle.layout.proofs.FreeBuddies.{in-order}
+use Rattle.free_pieces.proofs.GapRuns.{gaps-are}
+use Rattle.layout.specs.Layout.{InOrder}
+use Rattle.free_pieces.specs.Gaps.{freeCopies, gapCopies}
 
 one-or-other : (f k : ℕ) → f + k ≡ 1 → ltb 0 f ≡ eqb k 0
 one-or-other f zero e = lt-ltb 0 f (omega arith)

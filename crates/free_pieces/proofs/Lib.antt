@@ -2,6 +2,7 @@
 pub mod Draws
 pub mod Fewer
 pub mod PairPlaces
+pub mod BuddyPlaces
 pub mod PieceTaken
 pub mod LaidMore
 pub mod PiecesLaid

@@ -1,5 +1,5 @@
--- Two pieces taken at their places are the pair to merge: the lowest of a height, and the lowest of that height behind
--- it. Assumes nothing.
+-- Two pieces taken at their places are the pair to merge: where no two are buddies, the lowest of a height and the
+-- lowest of it behind that. Assumes nothing.
 use mathlib.Core.Bool.{Bool, false, true}
 use mathlib.Core.List.{List, [], _∷_}
 use mathlib.Core.Path.{_∙_, _≡_, ap, ap₂, refl, subst, sym}
@@ -9,11 +9,12 @@ use native.Mathlib.Omega.{arith}
 use lib.ListN.{drop, getD, length}
 use Rattle.section.specs.declared.Section.{Section}
 use Rattle.section.specs.Sections.{section}
+use Rattle.layout.proofs.MergePairs.{mergePair-lowest}
 use Rattle.layout.proofs.Splitting.{count-none, countOf, ofHeight-same}
 use Rattle.layout.proofs.Taking.{TakesOf, nothing-height, takeFirst-is, takes-height, takes-sum}
 use Rattle.layout.specs.Adding.{takeFirst, taken}
 use Rattle.layout.specs.Layout.{hasHeight, ofHeight}
-use Rattle.layout.specs.Removing.{mergePair, pair, secondOf, withLower}
+use Rattle.layout.specs.Removing.{buddyPair, fewer, lowestTwo, mergePair, pair, secondOf, withLower}
 use Rattle.piece_lists.specs.Places.{firstPlace, withoutAt}
 use Rattle.free_pieces.proofs.Draws.{pair-found, take-at, take-none}
 use Rattle.free_pieces.specs.Free.{freeOf, freePlaces, pairOf}
@@ -39,7 +40,8 @@ place-next q (a ∷ l) p = go (q a) refl p (λ lt. place-next q l lt)
         → firstPlace q (withoutAt (firstPlace q l) l) ≡ firstPlace q l + firstPlace q (drop (suc (firstPlace q l)) l))
         → firstPlace q (withoutAt (after t) (a ∷ l)) ≡ after t + firstPlace q (drop (suc (after t)) (a ∷ l))
     go true e lt ih = omega arith
-    go false e lt ih = ap (λ t. elim t as (λ _. ℕ) [ true ↦ 0 | false ↦ suc (firstPlace q (withoutAt (firstPlace q l) l)) ]) e
+    go false e lt ih =
+        ap (λ t. elim t as (λ _. ℕ) [ true ↦ 0 | false ↦ suc (firstPlace q (withoutAt (firstPlace q l) l)) ]) e
         ∙ omega (arith, ih (omega arith))
 
 -- a height that is counted has a place
@@ -70,8 +72,13 @@ pub record PairPlaces (h : ℕ) (free : List Section) (low next : ℕ) : Type 0 
   pub upper : next + 1 < length free
   pub pairs : (n : ℕ) (p : Pair) → PairsAt n free low next p → pairOf p ≡ mergePair h free
 
+pub places-same : {h : ℕ} {free : List Section} {low next i j : ℕ} → PairPlaces h free low next → i ≡ low → j ≡ next
+    → PairPlaces h free i j
+places-same {h} {free} {low} {next} {i} {j} p e f =
+    subst (λ z. PairPlaces h free z j) (sym e) (subst (PairPlaces h free low) (sym f) p)
+
 -- what is taken at two places
-pairs-are : (n : ℕ) (free : List Section) (low next : ℕ) (p : Pair) → PairsAt n free low next p
+pub pairs-are : (n : ℕ) (free : List Section) (low next : ℕ) (p : Pair) → PairsAt n free low next p
     → pairOf p
     ≡ pair (getD free low (section 0 0)) (getD (withoutAt low free) next (section 0 0))
     (withoutAt next (withoutAt low free))
@@ -80,7 +87,7 @@ pairs-are n free low next p q =
     ∙ (ap (λ l. pair l (p .upper) (freeOf (p .others))) (q .lower)
     ∙ ap₂ (λ u r. pair (getD free low (section 0 0)) u r) (q .upper) (q .others))
 
-module _ (h : ℕ) (free : List Section) (two : 1 < countOf h free) where
+module _ (h : ℕ) (free : List Section) (none : buddyPair h free ≡ fewer) (two : 1 < countOf h free) where
   abbrev low : ℕ
   low = firstPlace (hasHeight h) free
 
@@ -105,14 +112,15 @@ module _ (h : ℕ) (free : List Section) (two : 1 < countOf h free) where
       ))
 
   two-lowest : PairPlaces h free low next
-  unfolding mergePair
+  unfolding lowestTwo
   two-lowest = record {
     lower = low-there;
     upper = omega (arith, next-there, without-length low free low-there);
     pairs = λ n p q. pairs-are n free low next p q
-        ∙ sym (ap (secondOf h) first
+        ∙ sym (mergePair-lowest h free none
+        ∙ (ap (secondOf h) first
         ∙ ap (withLower (getD free low (section 0 0)))
-        (take-at (hasHeight h) (section 0 0) (withoutAt low free) next-there));
+        (take-at (hasHeight h) (section 0 0) (withoutAt low free) next-there)));
   }
 
   -- the lowest of the height, and the lowest behind it
@@ -122,4 +130,4 @@ module _ (h : ℕ) (free : List Section) (two : 1 < countOf h free) where
       let k : i + 1 ≡ suc low = omega arith in
       let behind = ap (λ z. z + firstPlace (hasHeight h) (drop z free)) k in
       let z : j - 1 ≡ next = omega (arith, f, behind, place-next (hasHeight h) free low-there) in
-      subst (λ x. PairPlaces h free x (j - 1)) (sym e) (subst (PairPlaces h free low) (sym z) two-lowest)
+      places-same two-lowest e z

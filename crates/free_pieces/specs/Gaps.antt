@@ -8,7 +8,8 @@ use lib.Dec.{eqb}
 use lib.ListN.{length}
 use Rattle.section.specs.declared.Section.{Section}
 use Rattle.section.specs.Sections.{Addressable, buddyOf, endOf, isInside}
-use Rattle.layout.specs.Lists.{Each, Pairwise}
+use Rattle.layout.specs.Layout.{InOrder}
+use Rattle.layout.specs.Lists.{Each}
 use Rattle.layout.specs.Removing.{Copy, copyRun}
 use Rattle.free_pieces.specs.Free.{freeOf, freePlaces}
 use Rattle.free_pieces.specs.declared.Gap.{Gap}
@@ -35,10 +36,6 @@ freeCopies l u others =
 
 abbrev pub pairCopies : Pair → List Copy
 pairCopies p = freeCopies (p .lower) (p .upper) (freeOf (p .others))
-
--- each piece ends before the next
-abbrev pub InOrder : List Section → Type 0
-InOrder l = Pairwise (λ (s t : Section). endOf s ≤ t .first) l
 
 -- r is the gap before s in b from `at` on, and where it ends
 pub record Gaps (b : Section) (at : ℕ) (s : Section) (r : Gap) : Type 0 where

@@ -1,9 +1,12 @@
-// The two free pieces to merge: the lowest two of the lowest height that has two. A list that is passed on is copied, so
-// both are found by their places first, and then taken together.
+// The two free pieces to merge, of the lowest height that has two: two that are buddies, else the two lowest. A list
+// that is passed on is copied, so both are found by their places first, and then taken together.
+ghost use mathlib.Core.Bool.{_&&_};
+ghost use mathlib.Core.Path.{_≡_};
 ghost use Prim.Native.Nat.{_+_, _<_, _≤_};
 ghost use lib.ListN.{drop};
-ghost use Rattle.section.specs.Limits.{heightCount};
-ghost use Rattle.layout.specs.Layout.{hasHeight};
+ghost use Rattle.section.specs.Limits.{greatestHeight, heightCount};
+ghost use Rattle.layout.specs.Layout.{InOrder, hasHeight};
+ghost use Rattle.layout.specs.Removing.{hasFreeBuddy, isBuddyAbove};
 ghost use Rattle.piece_lists.specs.Places.{IsPlace, firstPlace};
 ghost use Rattle.free_pieces.specs.Free.{freePlaces, freeOf, Pairs, lowestPair};
 ghost use Rattle.free_pieces.specs.Pairs.{HeightDue, PairsAt};
@@ -11,6 +14,26 @@ use crate::Free;
 use crate::Pair;
 use section::Height;
 use section::Section;
+
+// Whether `l` has height `h`, and `u` is its buddy above it.
+fn are_buddies(h: u32, l: Section, u: Section) -> bool
+    requires { ⌜ h ≤ greatestHeight ⌝ }
+    ensures { λ r. ⌜ r ≡ (hasHeight h l && isBuddyAbove l u) ⌝ }
+{
+    let low = l.height;
+    if low.value != h {
+        return false;
+    }
+    let high = u.height;
+    if high.value != h {
+        return false;
+    }
+    let buddy = l.buddy();
+    if u.first != buddy.first {
+        return false;
+    }
+    l.first < u.first
+}
 
 impl Free {
     // The lowest height that has two pieces, or one past the greatest.
@@ -36,6 +59,27 @@ impl Free {
             h += 1;
         }
         h
+    }
+
+    // The first place whose piece has height `h` and its buddy above it right behind it, or the end. No buddy stands
+    // anywhere else, since the pieces are in order.
+    fn place_of_buddies(self, h: u32) -> usize
+        requires { ⌜ self .count ≤ freePlaces ⌝ }
+        requires { ⌜ InOrder (freeOf self) ⌝ }
+        requires { ⌜ h ≤ greatestHeight ⌝ }
+        ensures { λ r. ⌜ IsPlace (self .count) (firstPlace (hasFreeBuddy h (freeOf self)) (freeOf self)) r ⌝ }
+    {
+        let m = self.count;
+        let mut place: usize = 0;
+        while place + 1 < m {
+            let l = self.items[place];
+            let u = self.items[place + 1];
+            if are_buddies(h, l.section(), u.section()) {
+                return place;
+            }
+            place += 1;
+        }
+        m
     }
 
     // The first place from `from` on whose piece has height `h`, or the end.
@@ -91,9 +135,10 @@ impl Free {
         }
     }
 
-    // The two lowest pieces of the lowest height that has two, and the others.
+    // The pair to merge at the lowest height that has two, and the others.
     pub fn lowest_pair(self) -> Pair
         requires { ⌜ self .count ≤ freePlaces ⌝ }
+        requires { ⌜ InOrder (freeOf self) ⌝ }
         ensures { λ r. ⌜ Pairs (self .count) (lowestPair heightCount 0 (freeOf self)) r ⌝ }
     {
         let h = self.height_due();
@@ -109,8 +154,12 @@ impl Free {
                 others: self,
             };
         }
-        let low = self.place_from(h, 0);
-        let high = self.place_from(h, low + 1);
-        self.pair_at(low, high - 1)
+        let mut low = self.place_of_buddies(h);
+        let mut next = low;
+        if self.count <= low {
+            low = self.place_from(h, 0);
+            next = self.place_from(h, low + 1) - 1;
+        }
+        self.pair_at(low, next)
     }
 }

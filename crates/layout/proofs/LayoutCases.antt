@@ -7,15 +7,16 @@ use Rattle.layout.specs.Adding.{allocate, allocated, takeFirst, takePiec
 use Rattle.layout.specs.Layout.{File, Layout, blockRun, blocksOf, filePieces, freshLayout, inRange}
 use Rattle.layout.specs.Layout.{piecesFrom}
 use Rattle.layout.specs.Lists.{insertBy, sortBy}
-use Rattle.layout.specs.Removing.{Copy, copiesFrom, copiesOf, copyRun, insertAll, layoutAfter, merge, mergeAll}
-use Rattle.layout.specs.Removing.{mergePair, nextMerge, release, removal, withoutFile}
+use Rattle.layout.specs.Removing.{Copy, buddyPair, copiesFrom, copiesOf, copyRun, insertAll, layoutAfter}
+use Rattle.layout.specs.Removing.{lowestTwo, merge, mergeAll, mergePair, nextMerge, release, removal}
+use Rattle.layout.specs.Removing.{withoutFile}
 use Rattle.section.specs.Sections.{buddyFirst, isInside, movedInto, parentFirst, section}
 use Rattle.section.specs.declared.Section.{Section}
 
-abbrev file : ℕ → List Section → File
+abbrev pub file : ℕ → List Section → File
 file i l = record { id = i; pieces = l }
 
-abbrev copy : ℕ → ℕ → Copy
+abbrev pub copy : ℕ → ℕ → Copy
 copy a b = record { source = a; target = b }
 
 -- case 3: longest first from block 0
@@ -34,7 +35,7 @@ pub record Removed : Type 0 where
   pub copies : List Copy
   pub after : Layout
 
-abbrev removed : File → Layout → Removed
+abbrev pub removed : File → Layout → Removed
 removed f l = record { copies = copiesOf (removal 13 f l); after = layoutAfter (release f l) (removal 13 f l) }
 
 -- cases 7, 9, 10 and 11
@@ -85,8 +86,8 @@ pub removals :
       };
     })
     ∷ []
-unfolding removal release mergeAll nextMerge mergePair merge takeFirst filePieces inRange copyRun copiesFrom copiesOf
-    layoutAfter insertAll withoutFile insertBy sortBy movedInto isInside buddyFirst parentFirst
+unfolding removal release mergeAll nextMerge mergePair buddyPair lowestTwo merge takeFirst filePieces inRange copyRun
+    copiesFrom copiesOf layoutAfter insertAll withoutFile insertBy sortBy movedInto isInside buddyFirst parentFirst
 removals = refl
 
 -- two free pieces that lie apart in the buddy: the blocks before, between and behind them are copied, and they move
@@ -106,8 +107,8 @@ pub removal-around-free-pieces :
         free = section 0 4 ∷ section 17 0 ∷ section 20 1 ∷ [];
       };
     }
-unfolding removal release mergeAll nextMerge mergePair merge takeFirst filePieces inRange copyRun copiesFrom copiesOf
-    layoutAfter insertAll withoutFile insertBy sortBy movedInto isInside buddyFirst parentFirst
+unfolding removal release mergeAll nextMerge mergePair buddyPair lowestTwo merge takeFirst filePieces inRange copyRun
+    copiesFrom copiesOf layoutAfter insertAll withoutFile insertBy sortBy movedInto isInside buddyFirst parentFirst
 removal-around-free-pieces = refl
 
 -- case 11: id 2 is read as blocks 0 to 3, 14, 15, 13

@@ -15,6 +15,9 @@ pub mod FilesMoved
 pub mod MergeCopies
 pub mod Merging
 pub mod MovedPieces
+pub mod BuddyPairs
+pub mod NoTwoBuddies
+pub mod FreeBuddies
 pub mod MergePairs
 pub mod MergeKeeps
 pub mod MergeParts
@@ -37,6 +40,8 @@ pub mod CopiesRise
 pub mod MergeOrder
 pub mod LoopMerges
 pub mod LoopTurns
+pub mod OneBuddyPair
 pub mod PageOrder
 pub mod LayoutCases
+pub mod BuddyCases
 pub mod RemovedRoom

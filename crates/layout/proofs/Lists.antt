@@ -71,6 +71,17 @@ module _ {ℓ} {A : Type ℓ} where
   each-right [] m p = p
   each-right (a ∷ l) m (more p e) = each-right l m e
 
+  -- what holds under a condition that no element is in
+  pub each-given {κ κ′} : {X : Type κ′} {P : A → Type κ} (l : List A) → (X → Each P l) → Each (λ a. X → P a) l
+  each-given [] f = done
+  each-given (a ∷ l) f = more (λ x. each-head (f x)) (each-given l (λ x. each-tail (f x)))
+
+  -- of every two, the other way round
+  pub each-swap {κ} : {R : A → A → Type κ} {l : List A} (m : List A) → Each (λ a. Each (R a) m) l
+      → Each (λ b. Each (λ a. R a b) l) m
+  each-swap m done = each-all m (λ b. done)
+  each-swap m (more p e) = each-imp (λ b q. more (q .0) (q .1)) (each-and p (each-swap m e))
+
   pub each-insert {κ} : {P : A → Type κ} (le : A → A → Bool) (a : A) {l : List A} → P a → Each P l
       → Each P (insertBy le a l)
   unfolding insertBy

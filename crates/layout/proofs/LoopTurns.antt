@@ -91,14 +91,22 @@ module _ (c : ℕ) where
             (subst (AtMostFrom (suc h + k)) e (q .1)),
       )
 
--- when the loop of a removal comes to height h, it merges at most once there
-pub one-merge-a-turn : (K i : ℕ) (l : Layout) (f : File) (r : List File) → SoundSums K l → Find i (l .files) f r
-    → (h : ℕ) → length (mergesOfHeight h (layoutAfter (release f l) (mergesFrom h 0 (release f l)))) ≤ 1
-one-merge-a-turn K i l f r g x h =
+-- the layout when the loop of a removal comes to height h
+abbrev pub atHeight : ℕ → File → Layout → Layout
+atHeight h f l = layoutAfter (release f l) (mergesFrom h 0 (release f l))
+
+-- the heights below h are then done, and h has at most three free pieces
+pub at-height : (K i : ℕ) (l : Layout) (f : File) (r : List File) → SoundSums K l → Find i (l .files) f r → (h : ℕ)
+    → Whole (l .blocks) (atHeight h f l) × AtMostFrom h (atHeight h f l)
+at-height K i l f r g x h =
     let two : (j : ℕ) → countOf j (release f l .free) ≤ 2 = released-two K i l f r g x in
     let p = turns (l .blocks) h 0 (release f l) (release-whole K i l f r g x)
     (record { low = λ j q. absurd (omega arith); carried = omega (arith, two 0); high = λ j q. two j }) in
-    turn (l .blocks) (length (layoutAfter (release f l) (mergesFrom h 0 (release f l)) .free)) h
-    (layoutAfter (release f l) (mergesFrom h 0 (release f l))) (p .0)
-    (subst (λ z. AtMostFrom z (layoutAfter (release f l) (mergesFrom h 0 (release f l)))) (zero-add h) (p .1))
-    (omega arith) .once
+    (p .0, subst (λ z. AtMostFrom z (atHeight h f l)) (zero-add h) (p .1))
+
+-- and it merges at most once there
+pub one-merge-a-turn : (K i : ℕ) (l : Layout) (f : File) (r : List File) → SoundSums K l → Find i (l .files) f r
+    → (h : ℕ) → length (mergesOfHeight h (layoutAfter (release f l) (mergesFrom h 0 (release f l)))) ≤ 1
+one-merge-a-turn K i l f r g x h =
+    let p = at-height K i l f r g x h in
+    turn (l .blocks) (length (atHeight h f l .free)) h (atHeight h f l) (p .0) (p .1) (omega arith) .once

@@ -1,5 +1,6 @@
--- A merge copies at least one block unless the upper section is the buddy: the free pieces inside the buddy are below
--- its height and at most one of each, so they cannot fill it. Assumes nothing.
+-- A merge copies at least one block unless the upper section is the buddy: its two are then the lowest, so the free
+-- pieces inside the buddy are below its height and at most one of each, and cannot fill it. With
+-- `buddies-copy-nothing`: a merge copies nothing exactly if its two are buddies. Assumes nothing.
 use mathlib.Core.Bool.{Bool, cond, false, true}
 use mathlib.Core.List.{List, [], _∷_}
 use mathlib.Core.Path.{_∙_, _≡_, ap, refl, subst, sym}
@@ -13,7 +14,8 @@ use Rattle.layout.proofs.Cover.{sumBelow-cong, sumBelow-sections, sumBe
 use Rattle.layout.proofs.Lists.{each-imp, each-right}
 use Rattle.layout.proofs.MergeHeld.{merge-number}
 use Rattle.layout.proofs.MergeKeeps.{Whole}
-use Rattle.layout.proofs.MergePairs.{LowestOf, Mergeable, MergeableOf, mergePair-is, mergePair-lowest}
+use Rattle.layout.proofs.MergePairs.{LowestOf, Mergeable, MergeableOf, lowest-unless-buddies, lowestTwo-lowest}
+use Rattle.layout.proofs.MergePairs.{mergePair-is}
 use Rattle.layout.proofs.MergeParts.{MergeParts, buddy-block, merge-parts}
 use Rattle.layout.proofs.Merging.{within-height}
 use Rattle.layout.proofs.Moving.{placed-off}
@@ -168,7 +170,7 @@ module _ (c : ℕ) (w : Layout) (l u : Section) (r : List Section) (wh : Whole c
           ))
       go (suc n) e = omega arith
 
--- of the two lowest of the lowest height that has two
+-- of two at the lowest height that has two
 pub merge-copies-some : (c : ℕ) (w : Layout) (l u : Section) (r : List Section) → Whole c w
     → ((j : ℕ) → j < l .height .value → countOf j (w .free) ≤ 1)
     → mergePair (l .height .value) (w .free) ≡ pair l u r → (buddyOf l .first ≡ u .first → ⊥)
@@ -176,4 +178,5 @@ pub merge-copies-some : (c : ℕ) (w : Layout) (l u : Section) (r : List Section
 merge-copies-some c w l u r wh low e ne =
     some-copied c w l u r wh
     (subst (MergeableOf (l .height .value) (w .free)) e (mergePair-is (l .height .value) (w .free) (wh .rising))) low
-    (subst (LowestOf (l .height .value)) e (mergePair-lowest (l .height .value) (w .free) (wh .rising))) ne
+    (subst (LowestOf (l .height .value)) (lowest-unless-buddies (l .height .value) (w .free) e ne)
+    (lowestTwo-lowest (l .height .value) (w .free) (wh .rising))) ne

@@ -1,7 +1,7 @@
 -- Taking the first section that passes a test, and lists by rising first block. Assumes nothing.
 use mathlib.Core.Bool.{Bool, false, true}
 use mathlib.Core.List.{List, [], _∷_}
-use mathlib.Core.Path.{_≡_, refl}
+use mathlib.Core.Path.{_∙_, _≡_, ap, refl}
 use Prim.Native.Nat.{_+_, _≤_, ℕ}
 use native.Mathlib.Nat.{le-of-lt, le-trans}
 use native.Mathlib.Omega.{arith}
@@ -32,6 +32,24 @@ takeFirst-is p (a ∷ l) = go (p a) refl (takeFirst p l) (takeFirst-is p l)
     go false e (taken s r) q = there e q
     go false e nothing q = more e q
 
+-- the first passes: it is taken
+pub takeFirst-here : (p : Section → Bool) (a : Section) (l : List Section) → p a ≡ true
+    → takeFirst p (a ∷ l) ≡ taken a l
+unfolding takeFirst
+takeFirst-here p a l e = rw (e, takeFirst)
+
+-- the first does not pass: one of those behind it is taken, if any
+pub takeFirst-behind : (p : Section → Bool) (a : Section) (l : List Section) → p a ≡ false
+    → takeFirst p (a ∷ l) ≡ keeping a (takeFirst p l)
+unfolding takeFirst
+takeFirst-behind p a l e = rw (e, takeFirst)
+
+pub takeFirst-none : (p : Section → Bool) {l : List Section} → Each (λ (a : Section). p a ≡ false) l
+    → takeFirst p l ≡ nothing
+unfolding takeFirst
+takeFirst-none p done = refl
+takeFirst-none p (more {a = a} {l = l} e es) = takeFirst-behind p a l e ∙ ap (keeping a) (takeFirst-none p es)
+
 pub takes-test : {p : Section → Bool} {l r : List Section} {s : Section} → Takes p l s r → p s ≡ true
 takes-test (here e) = e
 takes-test (there n x) = takes-test x
@@ -45,6 +63,12 @@ pub takes-each {κ} : {p : Section → Bool} {l r : List Section} {s : Section} 
     → Each P l → P s × Each P r
 takes-each (here e) (more q qs) = (q, qs)
 takes-each (there n x) (more q qs) = let y = takes-each x qs in (y .0, more q (y .1))
+
+-- what holds of the one taken and of the others holds of all
+pub takes-back {κ} : {p : Section → Bool} {l r : List Section} {s : Section} {P : Section → Type κ} → Takes p l s r
+    → P s → Each P r → Each P l
+takes-back (here e) q qs = more q qs
+takes-back (there n x) q (more z zs) = more z (takes-back x q zs)
 
 pub takes-height : {h : ℕ} {l r : List Section} {s : Section} → Takes (hasHeight h) l s r → s .height .value ≡ h
 takes-height {h} {s = s} x = eqb-true (s .height .value) h (takes-test x)

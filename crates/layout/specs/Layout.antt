@@ -7,7 +7,7 @@ use lib.Dec.{leb, ltb, eqb}
 use lib.ListN.{length}
 use Rattle.section.specs.declared.Section.{Section}
 use Rattle.section.specs.Sections.{section, lengthOf, endOf}
-use Rattle.layout.specs.Lists.{sumOf, indicator}
+use Rattle.layout.specs.Lists.{Pairwise, sumOf, indicator}
 
 -- a file: its id, and its pieces in page order, longest first
 pub record File : Type 0 where
@@ -101,6 +101,10 @@ byLength a b = leb (b .height .value) (a .height .value)
 
 abbrev pub byId : File → File → Bool
 byId f g = leb (f .id) (g .id)
+
+-- each ends before the next begins
+abbrev pub InOrder : List Section → Type 0
+InOrder l = Pairwise (λ (s t : Section). endOf s ≤ t .first) l
 
 -- ---- sections of a disk, and the fresh disk
 

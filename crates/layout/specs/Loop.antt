@@ -1,12 +1,12 @@
--- Merging as document 01 words it: for h from 0 up, while height h has two or more free pieces, the two lowest are
--- merged. Definitions only.
+-- Merging as document 01 words it: for h from 0 up, while height h has two or more free pieces, two of them are
+-- merged, those that step 1 takes. Definitions only.
 use mathlib.Core.List.{List, [], _∷_, _++_}
 use Prim.Native.Nat.{ℕ, zero, suc}
 use lib.ListN.{length}
 use Rattle.layout.specs.Layout.{Layout}
 use Rattle.layout.specs.Removing.{Merge, pair, fewer, mergePair, merge, layoutAfter}
 
--- while height h has two or more free pieces, the two lowest are merged; at most n times
+-- while height h has two or more free pieces, two of them are merged; at most n times
 unfoldable pub mergesAt : ℕ → ℕ → Layout → List Merge
 mergesAt zero h w = []
 mergesAt (suc n) h w =

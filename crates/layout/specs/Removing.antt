@@ -1,6 +1,7 @@
--- Removing: the file's pieces become free, and while a height has two free pieces the lowest such height is merged.
--- A removal is the list of its merges, each with its block copies and the layout that it leaves. Definitions only.
-use mathlib.Core.Bool.{Bool, true, false, cond}
+-- Removing: the file's pieces become free, and while a height has two free pieces the lowest such height is merged: two
+-- that are buddies, else the two lowest. A removal is the list of its merges, each with its block copies and the layout
+-- that it leaves. Definitions only.
+use mathlib.Core.Bool.{Bool, true, false, cond, _&&_}
 use mathlib.Core.List.{List, [], _∷_, _++_, map}
 use Prim.Native.Nat.{ℕ, zero, suc, _+_}
 use lib.Dec.{eqb, ltb}
@@ -8,8 +9,8 @@ use lib.ListN.{length}
 use Rattle.section.specs.declared.Section.{Section}
 use Rattle.section.specs.Sections.{lengthOf, buddyOf, parentOf, movedInto}
 use Rattle.layout.specs.Lists.{insertBy, sortBy, sumOf}
-use Rattle.layout.specs.Layout.{File, Layout, byFirst, filePieces, holdsBlock}
-use Rattle.layout.specs.Adding.{Taken, taken, nothing, takeOfHeight}
+use Rattle.layout.specs.Layout.{File, Layout, byFirst, filePieces, hasHeight, holdsBlock}
+use Rattle.layout.specs.Adding.{Taken, taken, nothing, takeFirst, takeOfHeight}
 
 -- ---- block copies
 
@@ -33,7 +34,7 @@ copiesFrom p (c ∷ l) =
 abbrev pub isHeld : List File → ℕ → Bool
 isHeld fs x = ltb 0 (sumOf (holdsBlock x) (filePieces fs))
 
--- ---- one merge
+-- ---- which two are merged
 
 -- the two free sections to merge, the lower first, and the other free pieces; or fewer than two
 pub data MergePair : Type 0 where
@@ -48,9 +49,39 @@ abbrev pub secondOf : ℕ → Taken → MergePair
 secondOf h (taken l r) = withLower l (takeOfHeight h r)
 secondOf h nothing = fewer
 
--- step 1: the two of height h with the lowest first blocks
+-- the two of height h with the lowest first blocks
+unfoldable pub lowestTwo : ℕ → List Section → MergePair
+lowestTwo h free = secondOf h (takeOfHeight h free)
+
+-- u is the buddy of l, and above it
+abbrev pub isBuddyAbove : Section → Section → Bool
+isBuddyAbove l u = hasHeight (l .height .value) u && (eqb (u .first) (buddyOf l .first) && ltb (l .first) (u .first))
+
+abbrev pub isTaken : Taken → Bool
+isTaken (taken s r) = true
+isTaken nothing = false
+
+-- l has height h, and its buddy above it is free too
+abbrev pub hasFreeBuddy : ℕ → List Section → Section → Bool
+hasFreeBuddy h free l = hasHeight h l && isTaken (takeFirst (isBuddyAbove l) free)
+
+abbrev pub withBuddy : Taken → MergePair
+withBuddy (taken l r) = withLower l (takeFirst (isBuddyAbove l) r)
+withBuddy nothing = fewer
+
+-- two of height h that are buddies
+unfoldable pub buddyPair : ℕ → List Section → MergePair
+buddyPair h free = withBuddy (takeFirst (hasFreeBuddy h free) free)
+
+abbrev pub orPair : MergePair → MergePair → MergePair
+orPair (pair l u r) t = pair l u r
+orPair fewer t = t
+
+-- step 1: two of height h that are buddies, else the two of height h with the lowest first blocks
 unfoldable pub mergePair : ℕ → List Section → MergePair
-mergePair h free = secondOf h (takeOfHeight h free)
+mergePair h free = orPair (buddyPair h free) (lowestTwo h free)
+
+-- ---- one merge
 
 -- step 2: the blocks of l's buddy that files hold copied to u in order, none if u is the buddy
 abbrev pub mergeCopies : List File → Section → Section → List Copy

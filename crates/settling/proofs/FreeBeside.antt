@@ -1,19 +1,15 @@
 -- A table whose free pieces are kept beside it while it merges. Assumes nothing.
 use mathlib.Core.List.{List}
 use Prim.Native.Nat.{_≤_, ℕ}
-use native.Mathlib.Omega.{arith}
 use Rattle.section.specs.declared.Section.{Section}
-use Rattle.layout.proofs.Lists.{sum-append}
-use Rattle.layout.proofs.Ranges.{inRange-le-one}
-use Rattle.layout.specs.Layout.{filePieces, holdsBlock}
-use Rattle.free_pieces.proofs.GapRuns.{in-order}
+use Rattle.layout.proofs.FreeBuddies.{free-in-order}
 use Rattle.free_pieces.specs.Free.{freeOf, freePlaces}
-use Rattle.free_pieces.specs.Gaps.{InOrder}
+use Rattle.layout.specs.Layout.{InOrder}
 use Rattle.free_pieces.specs.declared.Free.{Free}
 use Rattle.free_pieces.specs.declared.Pair.{Pair}
 use Rattle.table.proofs.FilesMoving.{FilesMoving}
 use Rattle.table.specs.Merges.{Ready}
-use Rattle.table.specs.Tables.{filesOf, layoutOf}
+use Rattle.table.specs.Tables.{layoutOf}
 use Rattle.table.specs.declared.Table.{Table}
 use Rattle.settling.proofs.Settling.{Settling}
 
@@ -54,11 +50,4 @@ moving-beside p b u m t₀ t i free₀ free a g = record {
 pub settling-in-order : (t₀ : Table) (d₀ : List ℕ) (t : Table) (d : List ℕ) (copied : ℕ) → Settling t₀ d₀ t d copied
     → InOrder (freeOf (t .free))
 unfolding layoutOf
-settling-in-order t₀ d₀ t d copied g =
-    in-order (freeOf (t .free)) (g .whole .rising)
-    (λ x. omega (
-      arith,
-      g .whole .covers x,
-      inRange-le-one x 0 (t .blocks),
-      sum-append (holdsBlock x) (filePieces (filesOf t)) (freeOf (t .free)),
-    ))
+settling-in-order t₀ d₀ t d copied g = free-in-order (t .blocks) (layoutOf t) (g .whole)

@@ -13,7 +13,7 @@ use Rattle.layout.proofs.MergePairs.{Mergeable}
 use Rattle.layout.proofs.MergeParts.{merge-parts}
 use Rattle.layout.proofs.MergeStep.{merge-keeps}
 use Rattle.layout.proofs.MovedPieces.{section-eta}
-use Rattle.layout.specs.Layout.{File, Layout, OnDisk, filePieces}
+use Rattle.layout.specs.Layout.{File, InOrder, Layout, OnDisk, filePieces}
 use Rattle.layout.specs.Lists.{Each, done, more}
 use Rattle.layout.specs.Removing.{merge, mergeCopies}
 use Rattle.section.specs.Limits.{greatestDisk, heightCount}
@@ -21,7 +21,7 @@ use Rattle.section.specs.Sections.{Addressable, buddyOf}
 use Rattle.section.specs.declared.Section.{Section}
 use Rattle.free_pieces.proofs.HeldGaps.{held-between, others-in-order}
 use Rattle.free_pieces.specs.Free.{Pairs, freeOf, lowestPair}
-use Rattle.free_pieces.specs.Gaps.{InOrder, PairFits, freeCopies}
+use Rattle.free_pieces.specs.Gaps.{PairFits, freeCopies}
 use Rattle.free_pieces.specs.declared.Pair.{Pair}
 use Rattle.table.proofs.NextPair.{DueOf, due-is, pair-found}
 use Rattle.table.specs.Merges.{Ready}

@@ -3,6 +3,7 @@
 use crate::builds::Build;
 use crate::scene::Scene;
 use crate::sides::{make, Call, Side};
+use model::BlockMap;
 use twin::BLOCK;
 
 /// A block that has other bytes than before: its place and the bytes.
@@ -18,33 +19,63 @@ struct Outcome {
 }
 
 impl Outcome {
-    /// What every build has to make of a removal. Older builds also copy free blocks: so the number of copies, and the
-    /// bytes of blocks that are free afterwards, may be others.
-    fn without_free_blocks(mut self) -> Outcome {
-        let catalogue = model::sound(&self.cat).expect("a call leaves a sound catalogue");
-        let mut held = vec![false; catalogue.blocks as usize];
-        for pair in catalogue.entries.iter().flat_map(|entry| &entry.pairs) {
-            held[pair.blocks()].fill(true);
+    /// Whether the same files are left with the same pages, wherever they lie. That is what every build has to make of
+    /// a removal: older ones may merge other free sections, so that the layout and the number of copies are others, or
+    /// copy free blocks too, so that these have other bytes.
+    fn has_files_of(&self, other: &Outcome, before: &[u8]) -> bool {
+        let (ours, theirs) = (files(&self.cat), files(&other.cat));
+        let same_pages = |(mine, its): (&usize, &usize)| self.block(*mine, before) == other.block(*its, before);
+        let same = |((id, blocks), (other_id, others)): (&FileBlocks, &FileBlocks)| {
+            id == other_id && blocks.len() == others.len() && blocks.iter().zip(others).all(same_pages)
+        };
+        ours.len() == theirs.len() && ours.iter().zip(&theirs).all(same)
+    }
+
+    /// The bytes of a block after the call.
+    fn block<'a>(&'a self, place: usize, before: &'a [u8]) -> &'a [u8] {
+        match self.changed.binary_search_by_key(&place, |changed| changed.0) {
+            Ok(at) => &self.changed[at].1,
+            Err(_) => &before[place * BLOCK..][..BLOCK],
         }
-        self.changed.retain(|(place, _)| held[*place]);
-        Outcome { answer: Ok(0), ..self }
     }
 }
 
-/// Makes each call once on every side, all from the same bytes, and compares answers, catalogues, outputs and disks.
-pub fn sides_agree(scene: &mut Scene, builds: &[&'static Build]) {
+/// The id of a file, and its blocks in page order.
+type FileBlocks = (u16, Vec<usize>);
+
+fn files(cat: &[u8]) -> Vec<FileBlocks> {
+    let catalogue = model::sound(cat).expect("a call leaves a sound catalogue");
+    let map = BlockMap::of(&catalogue);
+    catalogue.entries.iter().map(|entry| (entry.id, map.pages(entry.id))).collect()
+}
+
+/// A build whose removal merges other free sections than the proved one, and so leaves another layout.
+pub struct OtherLayout {
+    pub build: &'static Build,
+    /// The blocks that it copies.
+    pub copied: u64,
+}
+
+/// Makes each call once on every side, all from the same bytes, and compares answers, catalogues, outputs and disks; of
+/// the removals of other builds the files that are left. Answers which builds leave another layout.
+pub fn sides_agree(scene: &mut Scene, builds: &[&'static Build]) -> Vec<OtherLayout> {
     let before = scene.disk.clone();
+    let mut others = Vec::new();
     for call in Call::ALL {
-        let mut proved = outcome(scene, Side::Proved, call, &before);
+        let proved = outcome(scene, Side::Proved, call, &before);
         for side in [Side::Twin, Side::Model] {
             same(side, call, outcome(scene, side, call, &before) == proved);
         }
-        let of_build = |outcome: Outcome| if call == Call::Remove { outcome.without_free_blocks() } else { outcome };
-        proved = of_build(proved);
-        for side in builds.iter().map(|build| Side::Beside(build)) {
-            same(side, call, of_build(outcome(scene, side, call, &before)) == proved);
+        for &build in builds {
+            let other = outcome(scene, Side::Beside(build), call, &before);
+            let removes = call == Call::Remove;
+            same(Side::Beside(build), call, other == proved || removes && other.has_files_of(&proved, &before));
+            if other.cat != proved.cat {
+                others.push(OtherLayout { build, copied: other.answer.unwrap_or(0) });
+            }
         }
     }
+    others
 }
 
 fn same(side: Side, call: Call, agrees: bool) {
@@ -76,20 +107,28 @@ fn put_back(disk: &mut [u8], before: &[u8]) -> Vec<Changed> {
 mod tests {
     use super::*;
 
+    /// The pair of a file and the free pairs on a disk of 4 blocks: the file lies at (0,1), or at (2,1).
+    const LOW: [u16; 6] = [0, 1, 1, 1, 2, 2];
+    const HIGH: [u16; 6] = [2, 1, 0, 2, 3, 1];
+
+    /// A removal that leaves these pairs, and changed these blocks of a disk of zero bytes to these bytes.
+    fn removal(copied: u64, pairs: [u16; 6], changed: &[(usize, u8)]) -> Outcome {
+        let fields = [1, 4, 1, 9, 1].into_iter().chain(pairs);
+        let mut cat: Vec<u8> = fields.flat_map(u16::to_be_bytes).collect();
+        cat.resize(twin::Version::SMALL.catalogue, 0);
+        let changed = changed.iter().map(|&(place, byte)| (place, [byte; BLOCK])).collect();
+        Outcome { answer: Ok(copied), cat, out: Vec::new(), changed }
+    }
+
     #[test]
-    fn of_a_removal_only_what_files_hold_is_compared_with_other_builds() {
-        let (mut cat, mut disk) = (vec![0; twin::Version::SMALL.catalogue], vec![0; 4 * BLOCK]);
-        twin::format(&mut cat, &disk).expect("a disk");
-        twin::add(&mut cat, &mut disk, 9, &[1; BLOCK]).expect("it fits");
-        let removal = |copied, free, held| Outcome {
-            answer: Ok(copied),
-            cat: cat.clone(),
-            out: Vec::new(),
-            changed: vec![(0, [held; BLOCK]), (1, [free; BLOCK])],
-        };
-        let right = removal(1, 3, 1).without_free_blocks();
-        assert!(removal(2, 4, 1).without_free_blocks() == right);
-        assert!(removal(1, 3, 2).without_free_blocks() != right);
+    fn of_a_removal_only_the_files_are_compared_with_other_builds() {
+        let right = removal(1, LOW, &[(0, 5), (2, 3)]);
+        let agrees = |other: Outcome| other.has_files_of(&right, &[0; 4 * BLOCK]);
+        assert!(agrees(removal(2, LOW, &[(0, 5), (2, 4)])), "other bytes in a free block");
+        assert!(!agrees(removal(1, LOW, &[(0, 6), (2, 3)])), "another page");
+        assert!(!agrees(removal(1, LOW, &[(2, 3)])), "no page");
+        assert!(agrees(removal(3, HIGH, &[(2, 5)])), "the page elsewhere");
+        assert!(!agrees(removal(3, HIGH, &[(0, 5), (2, 3)])), "another page elsewhere");
     }
 
     #[test]

@@ -17,7 +17,8 @@ bench: times the proved event disk manager beside a plain twin and beside the se
                     the ratios of the proved calls to it; may be repeated. FILE is a shared library, by a path from
                     the repository on, that is made from an archive of the build:
                     cc -shared -o FILE -Wl,--whole-archive libevdisk.a -Wl,--no-whole-archive
-                    A build that does not have a version of the catalogue is left out on its disks
+                    A build that does not have a version of the catalogue is left out on its disks. One that merges
+                    other free sections in a removal is timed, and it is said how many blocks it copies
   --profile SIDE CALL DISK N
                     only makes a call N times, for a profiler to watch:
                     SIDE is proved, twin or model

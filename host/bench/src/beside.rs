@@ -1,7 +1,8 @@
 //! The tables of other builds.
 
+use crate::agreement::OtherLayout;
 use crate::builds::Build;
-use crate::markdown::{ratio, table};
+use crate::markdown::{blocks, ratio, table};
 use crate::timing::Beside;
 use twin::Version;
 
@@ -36,4 +37,16 @@ pub fn beside_part(
         text += &format!("\nThe build `{}` refuses version {} and is left out here.\n", build.name, version.number);
     }
     text
+}
+
+/// Which builds merge other free sections in the removal of a disk, so that it is not the same work that is timed.
+pub fn other_layouts_part(others: &[OtherLayout]) -> String {
+    let line = |other: &OtherLayout| {
+        let (name, copied) = (&other.build.name, blocks(other.copied));
+        format!(
+            "\nThe build `{name}` merges other free sections in this removal: it copies {copied}, and leaves another \
+             layout.\n"
+        )
+    };
+    others.iter().map(line).collect()
 }

@@ -7,12 +7,12 @@ mod arguments;
 mod beside;
 mod builds;
 mod copies;
-mod half_free;
 #[allow(unsafe_code)]
 mod library;
 mod markdown;
 mod numbers;
 mod plot;
+mod removals;
 mod report;
 mod scene;
 mod shape;
@@ -22,6 +22,7 @@ mod timing;
 
 use arguments::Task;
 use builds::Build;
+use removals::Kind;
 use report::Measured;
 use scene::Scene;
 use shape::Shape;
@@ -29,16 +30,16 @@ use sides::{Call, Side};
 use std::path::Path;
 use std::process::ExitCode;
 
-/// Times every call on every disk, one disk after another, the block copies, and removals that move a buddy of which
-/// half is free. A build takes part where it has the version.
+/// Times every call on every disk, one disk after another, the block copies, and removals of two kinds. A build takes
+/// part where it has the version.
 fn measure(builds: Vec<&'static Build>, rounds: usize) -> Measured {
     let that_serve = |version| builds.iter().copied().filter(|build| build.serves(version)).collect::<Vec<_>>();
-    let (mut scenes, mut rows) = (Vec::new(), Vec::new());
+    let (mut scenes, mut rows, mut other_layouts) = (Vec::new(), Vec::new(), Vec::new());
     for shape in Shape::ALL {
         eprintln!("using the disk {} ..", shape.name);
         let mut scene = Scene::used(shape);
         let there = that_serve(shape.version);
-        agreement::sides_agree(&mut scene, &there);
+        other_layouts.push(agreement::sides_agree(&mut scene, &there));
         for call in Call::ALL {
             eprintln!("timing {} on {} ..", call.name(), shape.name);
             rows.push(timing::time_call(&mut scene, scenes.len(), call, &there, rounds));
@@ -48,9 +49,13 @@ fn measure(builds: Vec<&'static Build>, rounds: usize) -> Measured {
     let places = [(7, 0), (7, 16), (10, 0), (10, 16)];
     let there = that_serve(copies::VERSION);
     let copies = places.map(|(top, past)| copies::time_copies(top, past, &there, rounds)).into();
-    let there = that_serve(half_free::VERSION);
-    let half_free = [4096, 1 << 20].map(|blocks| half_free::time_half_free(blocks, &there, rounds)).into();
-    Measured { rounds, builds, scenes, rows, copies, half_free }
+    let there = that_serve(removals::VERSION);
+    let on_disks = |kind: Kind| {
+        let removals = [4096, 1 << 20].map(|blocks| kind.time(blocks, &there, rounds)).into();
+        (kind, removals)
+    };
+    let removals = [removals::HALF_FREE, removals::FREE_BUDDIES].map(on_disks).into();
+    Measured { rounds, builds, scenes, rows, other_layouts, copies, removals }
 }
 
 /// Writes the tables and the plot to the documents. It is to be run where the folder `docs` is.

@@ -27,6 +27,12 @@ pub fn thousands(number: f64) -> String {
     text
 }
 
+/// A number of blocks.
+pub fn blocks(number: u64) -> String {
+    let s = if number == 1 { "" } else { "s" };
+    format!("{} block{s}", thousands(number as f64))
+}
+
 /// A number with one digit after the point.
 pub fn tenths(number: f64) -> String {
     format!("{number:.1}")
@@ -62,5 +68,6 @@ mod tests {
     #[test]
     fn numbers_have_commas() {
         assert_eq!(["7", "1,000", "123,456"].map(String::from), [7.0, 999.6, 123456.0].map(thousands));
+        assert_eq!(["0 blocks", "1 block", "1,000 blocks"].map(String::from), [0, 1, 1000].map(blocks));
     }
 }

@@ -1,10 +1,11 @@
 //! The tables of all that was measured.
 
-use crate::beside::{beside_part, BesideLine};
+use crate::agreement::OtherLayout;
+use crate::beside::{beside_part, other_layouts_part, BesideLine};
 use crate::builds::Build;
 use crate::copies::{self, Copies};
-use crate::half_free::{self, HalfFree};
-use crate::markdown::{ratio, table, tenths, thousands};
+use crate::markdown::{blocks, ratio, table, tenths, thousands};
+use crate::removals::{self, Kind, Removal};
 use crate::scene::Facts;
 use crate::shape::Shape;
 use crate::timing::{self, Row};
@@ -16,8 +17,10 @@ pub struct Measured {
     pub builds: Vec<&'static Build>,
     pub scenes: Vec<Facts>,
     pub rows: Vec<Row>,
+    /// For each scene the builds whose removal leaves another layout.
+    pub other_layouts: Vec<Vec<OtherLayout>>,
     pub copies: Vec<Copies>,
-    pub half_free: Vec<HalfFree>,
+    pub removals: Vec<(Kind, Vec<Removal>)>,
 }
 
 /// A disk in a few words.
@@ -27,9 +30,9 @@ pub fn disk_text(shape: &Shape) -> String {
 
 fn scene_text(facts: &Facts) -> String {
     let shape = &facts.shape;
-    let [file_blocks, copied] = [shape.file_blocks as f64, facts.copied as f64].map(thousands);
     let disk = disk_text(shape).replacen('v', "V", 1);
-    format!("{disk} of {file_blocks} blocks, {} pairs; the removal copies {copied} blocks", shape.pairs())
+    let [of_file, copied] = [shape.file_blocks as u64, facts.copied].map(blocks);
+    format!("{disk} of {of_file}, {} pairs; the removal copies {copied}", shape.pairs())
 }
 
 fn call_row(row: &Row) -> Vec<String> {
@@ -46,7 +49,8 @@ fn scene_table(measured: &Measured, scene: usize) -> String {
     let lines: Vec<BesideLine> =
         calls.iter().map(|row| (vec![row.call.name().into()], row.besides.as_slice())).collect();
     let beside = beside_part(&measured.builds, facts.shape.version, &["call"], &lines, thousands);
-    format!("### {}\n\n{}{beside}", scene_text(facts), table(&header, &rows))
+    let others = other_layouts_part(&measured.other_layouts[scene]);
+    format!("### {}\n\n{}{beside}{others}", scene_text(facts), table(&header, &rows))
 }
 
 /// The tables of block copies.
@@ -81,31 +85,31 @@ fn copies_cells(c: &Copies) -> Vec<String> {
     vec![format!("C = {blocks}"), format!("{} bytes", c.past), copied]
 }
 
-/// The tables of removals that move a buddy of which half is free.
-fn half_free_table(builds: &[&Build], removals: &[HalfFree]) -> String {
-    let header = ["disk", "blocks of the buddy", "blocks copied", "proved / twin", "proved ns", "twin ns", "second ns"];
-    let row = |removal: &HalfFree| {
+/// The tables of removals of a kind.
+fn removals_table(builds: &[&Build], kind: &Kind, removals: &[Removal]) -> String {
+    let header = ["disk", kind.section, "blocks copied", "proved / twin", "proved ns", "twin ns", "second ns"];
+    let row = |removal: &Removal| {
         let times = removal.times.map(|time| thousands(time.median));
-        [half_free_cells(removal), vec![ratio(removal.to_twin)], times.into()].concat()
+        [removal_cells(removal), vec![ratio(removal.to_twin)], times.into()].concat()
     };
     let rows: Vec<_> = removals.iter().map(row).collect();
     let there = removals.first().map_or(&[][..], |removal| &removal.besides);
     let copied_by = there.iter().map(|beside| format!("copied by {}", beside.build.name));
     let first_cells: Vec<String> = header[..3].iter().map(|name| name.to_string()).chain(copied_by).collect();
-    let cells = |removal: &HalfFree| {
+    let cells = |removal: &Removal| {
         let copied_by = removal.copied_by.iter().map(|&copied| thousands(copied as f64));
-        half_free_cells(removal).into_iter().chain(copied_by).collect()
+        removal_cells(removal).into_iter().chain(copied_by).collect()
     };
     let lines: Vec<BesideLine> = removals.iter().map(|removal| (cells(removal), removal.besides.as_slice())).collect();
     let first_cells: Vec<&str> = first_cells.iter().map(String::as_str).collect();
-    let beside = beside_part(builds, half_free::VERSION, &first_cells, &lines, thousands);
-    format!("### A removal that moves a buddy of which half is free\n\n{}{beside}", table(&header, &rows))
+    let beside = beside_part(builds, removals::VERSION, &first_cells, &lines, thousands);
+    format!("### {}\n\n{}{beside}", kind.title, table(&header, &rows))
 }
 
-/// The disk, the blocks of the buddy, and how many of them are copied.
-fn half_free_cells(removal: &HalfFree) -> Vec<String> {
-    let [blocks, buddy, copied] = [removal.blocks, removal.buddy, removal.copied].map(|n| thousands(n as f64));
-    vec![format!("C = {blocks}"), buddy, copied]
+/// The disk, the blocks of the section that the removal is about, and how many blocks are copied.
+fn removal_cells(removal: &Removal) -> Vec<String> {
+    let [blocks, section, copied] = [removal.blocks, removal.section, removal.copied].map(|n| thousands(n as f64));
+    vec![format!("C = {blocks}"), section, copied]
 }
 
 /// How far apart two series of the same code were.
@@ -136,7 +140,7 @@ fn effort(rounds: usize) -> String {
 pub fn text(measured: &Measured) -> String {
     let mut parts: Vec<String> = (0..measured.scenes.len()).map(|scene| scene_table(measured, scene)).collect();
     parts.push(copies_table(&measured.builds, &measured.copies));
-    parts.push(half_free_table(&measured.builds, &measured.half_free));
+    parts.extend(measured.removals.iter().map(|(kind, removals)| removals_table(&measured.builds, kind, removals)));
     parts.push(effort(measured.rounds) + &noise(&measured.rows));
     parts.join("\n")
 }

@@ -20,7 +20,8 @@ FILE is one or more records of 512 bytes. Says in which pieces the event lies, a
 pub const REMOVE: &str = "\
 Says how many blocks were copied to join free space, and the contract's limit for this removal: the sum of the place
 values at which free blocks plus the event's blocks carry in binary. A line with both goes to the shift log. Only blocks
-that events hold are copied.";
+that events hold are copied. Two free sections that are the halves of a longer one are joined first, without a copy:
+that mostly saves copies, but not at every removal, and the limit is what holds.";
 
 pub const READ: &str = "\
 Reads N pages from page P on; pages count from 0. Without --first it starts at page 0, without --pages it goes on to

@@ -68,7 +68,9 @@ pub fn add(cat: &mut [u8], disk: &mut [u8], id: u16, content: &[u8]) -> Result<u
     answer(archive::add(cat, disk, id, content))
 }
 
-/// Removes a file, joins free space, and answers how many blocks were copied for it.
+/// Removes a file, joins free space, and answers how many blocks were copied for it: at most [`carries`] of the free
+/// blocks and the file's. Free buddies are joined first, and nothing is copied for them; that need not make the number
+/// of a removal the least that there could be.
 pub fn remove(cat: &mut [u8], disk: &mut [u8], id: u16) -> Result<u64, Refusal> {
     answer(archive::remove(cat, disk, id))
 }

@@ -4,7 +4,7 @@ pub const HELP: &str = "\
 histories: runs the proved event disk manager beside a second implementation and the plain book
 
   histories random [--seed S] [--calls N] [--long]   long random histories, on large disks too
-  histories small [--depth D]                        all histories of disks of 1 to 6 blocks
+  histories small [--depth D]                        all histories of disks of 1 to 8 blocks
   histories damage [--seed S] [--count N]            damaged catalogues, buffers of wrong lengths
   histories stack                                    the stack that each exported call uses
   histories all [any of these options]               all of the above

@@ -11,7 +11,6 @@ use crate::spoil::spoil;
 use crate::tally::Tally;
 use crate::twin::{told, Difference, Twin};
 use crate::twists::twisted;
-use crate::watch::check_copies;
 
 /// The catalogues of one size: C is up to so many blocks, and the buffers of the disk have so many.
 #[derive(Clone, Copy)]
@@ -169,7 +168,7 @@ fn one_call(
     }
     if let (Call::Remove { id }, Ok(copied), Some(catalogue)) = (call, answer, meaning) {
         let n = catalogue.entry(*id).map_or(0, |entry| u64::from(entry.blocks));
-        tally.count_removal(check_copies(u64::from(catalogue.free_blocks()), n, copied, twin.moves())?);
+        tally.count_removal(twin.merges().check(u64::from(catalogue.free_blocks()), n, copied)?);
     }
     Ok(())
 }

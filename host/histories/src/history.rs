@@ -6,7 +6,7 @@ use crate::call::{stamp, Call, Lent};
 use crate::numbers::Numbers;
 use crate::tally::Tally;
 use crate::twin::{told, Difference, Twin};
-use crate::watch::{check_copies, compare_state, compare_touched, follow};
+use crate::watch::{compare_state, compare_touched, follow};
 
 /// The greatest disk of which all bytes are compared after every call; of greater ones a part.
 pub const MOST_WHOLE: usize = 5000;
@@ -53,7 +53,7 @@ impl History {
         }
         follow(&mut self.book, call, &self.content, &self.twin, answer)?;
         match (call, answer) {
-            (Call::Remove { .. }, Ok(copied)) => tally.count_removal(check_copies(f, n, copied, self.twin.moves())?),
+            (Call::Remove { .. }, Ok(copied)) => tally.count_removal(self.twin.merges().check(f, n, copied)?),
             (Call::Format | Call::Add { .. }, Ok(_)) => {}
             // The bytes were found to be the second implementation's, which it only borrows to look at.
             _ => return Ok(answer),

@@ -153,7 +153,8 @@ impl Counts {
         self.tally.print_removals();
     }
 
-    /// There were 64 files at once, as many pieces as a file can have, no space, copies, and free blocks not copied.
+    /// There were 64 files at once, as many pieces as a file can have, no space, copies, free blocks not copied, and
+    /// free buddies that were merged though the two lowest free sections were others.
     fn saw_enough(&self) -> bool {
         let seen = [
             ("64 files", self.most_files == model::MOST_FILES),
@@ -162,6 +163,7 @@ impl Counts {
             ("refusal 10", self.tally.refused(10) > 0),
             ("a removal that copied", self.tally.copied() > 0),
             ("a buddy with free blocks that moved", self.tally.spared() > 0),
+            ("free buddies that were not the two lowest", self.tally.passing() > 0),
         ];
         for (what, _) in seen.iter().filter(|(_, seen)| !seen) {
             println!("  never seen on large disks: {what}");

@@ -10,6 +10,7 @@ mod history;
 mod large;
 mod layouts;
 mod lengths;
+mod merges;
 mod mixes;
 mod numbers;
 mod random;

@@ -61,19 +61,22 @@ fn any_blocks(version: Version, numbers: &mut Numbers) -> usize {
     }
 }
 
-/// Each refusal was given, a removal reached its limit, and a buddy with free blocks moved.
+/// Each refusal was given, a removal reached its limit, a buddy with free blocks moved, and free buddies were merged
+/// though the two lowest free sections were others.
 fn saw_enough(tally: &Tally) -> bool {
     let missing: Vec<u8> = (1..=11).filter(|&number| tally.refused(number) == 0).collect();
     if !missing.is_empty() {
         println!("  refusals that never were given: {missing:?}");
     }
-    if tally.at_bound() == 0 {
-        println!("  no removal reached its carry bound");
+    let seen = [
+        ("a removal that reached its carry bound", tally.at_bound() > 0),
+        ("a buddy with free blocks that moved", tally.spared() > 0),
+        ("free buddies that were not the two lowest", tally.passing() > 0),
+    ];
+    for (what, _) in seen.iter().filter(|(_, seen)| !seen) {
+        println!("  never seen: {what}");
     }
-    if tally.spared() == 0 {
-        println!("  no buddy that moved had a free block");
-    }
-    missing.is_empty() && tally.at_bound() > 0 && tally.spared() > 0
+    missing.is_empty() && seen.iter().all(|(_, seen)| *seen)
 }
 
 /// One list of calls, from a format. A difference is told with its call.

@@ -2,9 +2,10 @@
 
 use std::ops::Range;
 
-use model::{Answer, Move, Version, BLOCK};
+use model::{Answer, Version, BLOCK};
 
 use crate::call::{Call, Lent};
+use crate::merges::Merges;
 
 /// Bytes before and after a lent buffer, which no call may change.
 pub const GUARD: usize = 61;
@@ -65,13 +66,11 @@ impl Side {
         self.out.bytes.resize(length + 2 * GUARD, UNREAD);
     }
 
-    /// The buddies that a call is going to move, as the second implementation has it. A refused call moves none.
-    pub fn moves(&self, call: &Call, lent: Lent) -> Vec<Move> {
+    /// What a call is going to merge, as the second implementation has it. A refused call merges nothing.
+    pub fn merges(&self, call: &Call, lent: Lent) -> Merges {
         match *call {
-            Call::Remove { id } => {
-                model::removal_moves(self.cat.lent(lent.cat), self.disk.lent(lent.disk), id).unwrap_or_default()
-            }
-            _ => Vec::new(),
+            Call::Remove { id } => Merges::of(self.cat.lent(lent.cat), self.disk.lent(lent.disk), id),
+            _ => Merges::default(),
         }
     }
 

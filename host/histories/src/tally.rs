@@ -3,7 +3,7 @@
 use model::Answer;
 
 use crate::call::{Call, NAMES};
-use crate::watch::Copied;
+use crate::merges::Copied;
 
 /// Counts of calls, refusals and removals.
 #[derive(Default)]
@@ -17,6 +17,11 @@ pub struct Tally {
     most_copied: u64,
     at_bound: u64,
     most_at_bound: u64,
+    merges: u64,
+    passing: u64,
+    by_lowest: u64,
+    fewer: u64,
+    more: u64,
 }
 
 impl Tally {
@@ -43,6 +48,11 @@ impl Tally {
             self.at_bound += 1;
             self.most_at_bound = self.most_at_bound.max(copied.bound);
         }
+        self.merges += copied.merges;
+        self.passing += copied.passing;
+        self.by_lowest += copied.by_lowest;
+        self.fewer += u64::from(copied.blocks < copied.by_lowest);
+        self.more += u64::from(copied.blocks > copied.by_lowest);
     }
 
     /// Counts what another has counted too.
@@ -52,6 +62,11 @@ impl Tally {
         self.copied += other.copied;
         self.moved += other.moved;
         self.at_bound += other.at_bound;
+        self.merges += other.merges;
+        self.passing += other.passing;
+        self.by_lowest += other.by_lowest;
+        self.fewer += other.fewer;
+        self.more += other.more;
         self.most_copied = self.most_copied.max(other.most_copied);
         self.most_at_bound = self.most_at_bound.max(other.most_at_bound);
         let counts = self.kinds.iter_mut().chain(&mut self.refusals);
@@ -80,6 +95,11 @@ impl Tally {
         self.moved - self.copied
     }
 
+    /// The merges of two free buddies though the two lowest free sections were others.
+    pub fn passing(&self) -> u64 {
+        self.passing
+    }
+
     /// Calls by kind, and refusals by number.
     pub fn print_calls(&self) {
         let kinds = NAMES.iter().zip(self.kinds).map(|(name, count)| format!("{name} {count}"));
@@ -95,5 +115,9 @@ impl Tally {
         println!(
             "  at most {most_copied} copied in one; {at_bound} reached the carry bound, the greatest at {most_at_bound}"
         );
+        let Tally { merges, passing, by_lowest, fewer, more, .. } = self;
+        println!("  merges {merges}: {passing} of two free buddies though the two lowest free sections were others;");
+        println!("  taking the two lowest always, each removal from the same disk, would copy {by_lowest} blocks:");
+        println!("  {fewer} removals copied fewer than that, {more} copied more");
     }
 }

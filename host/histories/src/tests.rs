@@ -8,7 +8,7 @@ use crate::numbers::Numbers;
 use crate::tally::Tally;
 use crate::touched::ROUND;
 use crate::twin::Difference;
-use crate::watch::{check_copies, compare_state, follow, Copied};
+use crate::watch::{compare_state, follow};
 
 /// A disk with id 3 of 3 blocks: on 5 blocks it is at (0,2) (4,1).
 fn history(version: Version, blocks: usize) -> History {
@@ -127,7 +127,8 @@ fn a_wrong_free_block_of_a_move_is_found_at_once() {
     let half_free = || long_disk(&[(1, 64), (2, 32), (3, 64)]);
     let mut history = half_free();
     assert_eq!(step(&mut history, Call::Remove { id: 1 }), Ok(Ok(32)));
-    let [Move { from, to, copies }] = history.twin.moves() else { panic!("one buddy moves") };
+    let moves: Vec<&Move> = history.twin.merges().moves().collect();
+    let [Move { from, to, copies }] = moves[..] else { panic!("one buddy moves") };
     assert_eq!((from.len(), copies.last()), (64, Some(&(from.start + 31, to.start + 31))));
     for (block, found) in [(from.start + 40, true), (to.start + 40, true), (to.end - 1, true), (from.start - 2, false)]
     {
@@ -145,25 +146,6 @@ fn pages_of_all_calls_ids_and_numbers_differ() {
         stamp(&mut content, call, id, 70_000 * BLOCK);
         assert!(content.chunks(BLOCK).all(|page| seen.insert(page[..8].to_vec())), "call {call}, id {id}");
     }
-}
-
-#[test]
-fn copies_past_the_bound_are_seen() {
-    let moved =
-        |copies: usize| Move { from: 0..4, to: 8..12, copies: (0..copies).map(|block| (block, block + 8)).collect() };
-    assert_eq!(check_copies(1, 1, 0, &[]), Ok(Copied { blocks: 0, moved: 0, bound: 1 }));
-    assert_eq!(check_copies(4, 4, 3, &[moved(3)]), Ok(Copied { blocks: 3, moved: 4, bound: 4 }));
-    assert!(check_copies(4, 4, 5, &[moved(5)]).is_err());
-    assert!(check_copies(2048, 2047, 1, &[moved(1)]).is_err());
-}
-
-#[test]
-fn a_move_without_a_copy_and_copies_of_no_move_are_seen() {
-    let moved = |copies: &[(usize, usize)]| Move { from: 0..2, to: 4..6, copies: copies.to_vec() };
-    assert!(check_copies(2, 2, 1, &[moved(&[(0, 4)])]).is_ok());
-    assert!(check_copies(2, 2, 2, &[moved(&[(0, 4)])]).is_err());
-    assert!(check_copies(2, 2, 1, &[]).is_err());
-    assert!(check_copies(3, 3, 1, &[moved(&[(0, 4)]), moved(&[])]).is_err());
 }
 
 #[test]

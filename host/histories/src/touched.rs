@@ -29,8 +29,8 @@ impl Touched {
     }
 
     /// Notes the buddies that a call is going to move.
-    pub fn before(&mut self, moves: &[Move]) {
-        self.runs = moves.iter().flat_map(|moved| [moved.from.clone(), moved.to.clone()]).collect();
+    pub fn before<'a>(&mut self, moves: impl Iterator<Item = &'a Move>) {
+        self.runs = moves.flat_map(|moved| [moved.from.clone(), moved.to.clone()]).collect();
     }
 
     /// Notes the pieces of a file that was added, and moves the window.
@@ -65,9 +65,9 @@ mod tests {
     #[test]
     fn a_move_touches_two_sections() {
         let mut touched = Touched::new(32);
-        touched.before(&[Move { from: 8..16, to: 16..24, copies: vec![(9, 17)] }]);
+        touched.before([Move { from: 8..16, to: 16..24, copies: vec![(9, 17)] }].iter());
         assert_eq!(Vec::from_iter(touched.ranges()), [7..17, 15..25, 0..0]);
-        touched.before(&[]);
+        touched.before([].iter());
         assert_eq!(touched.ranges().count(), 1, "the window alone");
     }
 

@@ -1,9 +1,10 @@
 //! The proved manager and the second implementation side by side, on buffers of their own.
 
-use model::{Answer, Entry, Move, Version, BLOCK};
+use model::{Answer, Entry, Version, BLOCK};
 
 use crate::before::Before;
 use crate::call::{Call, Lent};
+use crate::merges::Merges;
 use crate::numbers::Numbers;
 use crate::sides::{Guarded, Side, GUARD, UNREAD};
 use crate::touched::Touched;
@@ -17,8 +18,8 @@ pub struct Twin {
     proved: Side,
     second: Side,
     before: Before,
-    /// The buddies that the last call moved, by the second implementation's account.
-    moves: Vec<Move>,
+    /// What the last call merged, by the second implementation's account.
+    merges: Merges,
     /// Where only a part of the disks is compared after a call, that part.
     touched: Option<Touched>,
 }
@@ -27,7 +28,7 @@ impl Twin {
     /// Both with buffers for at most so many blocks; all bytes are compared after every call.
     pub fn new(version: Version, most_blocks: usize) -> Twin {
         let (proved, second) = (Side::new(most_blocks), Side::new(most_blocks));
-        Twin { version, proved, second, before: Default::default(), moves: Vec::new(), touched: None }
+        Twin { version, proved, second, before: Default::default(), merges: Default::default(), touched: None }
     }
 
     /// The same, but of the disks only the blocks of `Touched` are compared after a call.
@@ -74,9 +75,9 @@ impl Twin {
         self.proved.out.lent(length)
     }
 
-    /// The buddies that the last call moved, if it was answered.
-    pub fn moves(&self) -> &[Move] {
-        &self.moves
+    /// What the last call merged, if it was answered.
+    pub fn merges(&self) -> &Merges {
+        &self.merges
     }
 
     /// Whether the last call touched a block of this file; of each file if all bytes are compared.
@@ -90,9 +91,9 @@ impl Twin {
         for side in [&mut self.proved, &mut self.second] {
             side.clear_output(call.output_length());
         }
-        self.moves = self.second.moves(call, lent);
+        self.merges = self.second.merges(call, lent);
         if let Some(touched) = &mut self.touched {
-            touched.before(&self.moves);
+            touched.before(self.merges.moves());
         }
         let second = self.second.call_model(call, lent, content);
         if let Some(touched) = &mut self.touched {

@@ -1,19 +1,12 @@
 //! The book beside the manager: what the one claim about the whole list of calls says at each call.
 
-use model::{Answer, Book, Entry, Move, Pair, BLOCK};
+use model::{Answer, Book, Entry, Pair, BLOCK};
 
 use crate::call::Call;
 use crate::twin::{told, Difference, Twin};
 
-/// A removal that was answered: how many blocks it copied, how many the buddies have that it moved, and the limit.
-#[derive(Clone, Copy, Debug, PartialEq, Eq)]
-pub struct Copied {
-    pub blocks: u64,
-    pub moved: u64,
-    pub bound: u64,
-}
-
-fn require(holds: bool, otherwise: impl FnOnce() -> String) -> Result<(), Difference> {
+/// What has to hold, or how it does not.
+pub fn require(holds: bool, otherwise: impl FnOnce() -> String) -> Result<(), Difference> {
     if holds {
         Ok(())
     } else {
@@ -44,21 +37,6 @@ pub fn follow(book: &mut Book, call: &Call, content: &[u8], twin: &Twin, answer:
         }
         _ => Ok(()),
     }
-}
-
-/// The copies of a removal that was answered, of a file of n blocks with f free ones: at most the carries of f + n, and
-/// for each buddy that moved at least one. For when it moves, no two free pieces are left at any height below its own,
-/// so that those inside it do not fill it.
-pub fn check_copies(f: u64, n: u64, blocks: u64, moves: &[Move]) -> Result<Copied, Difference> {
-    let bound = model::carries(f, n);
-    require(bound == event_disk::carries(f, n), || format!("two carry bounds differ for f {f}, n {n}"))?;
-    require(blocks <= bound, || format!("{blocks} blocks were copied, the limit for f {f}, n {n} is {bound}"))?;
-    let copies: usize = moves.iter().map(|moved| moved.copies.len()).sum();
-    require(copies as u64 == blocks, || format!("{blocks} blocks were copied, not the {copies} of the moves"))?;
-    require(moves.iter().all(|moved| !moved.copies.is_empty()), || {
-        format!("no block was copied for one of {moves:?}")
-    })?;
-    Ok(Copied { blocks, moved: moves.iter().map(|moved| moved.from.len() as u64).sum(), bound })
 }
 
 /// What holds of catalogue and disk after every list of calls: ids, n, pieces and pages are the book's.

@@ -1,6 +1,6 @@
 //! The calls on bytes. A call first finds whether it is refused, and for that it only looks at its buffers.
 
-use crate::{sound, write, BlockMap, Catalogue, Move, Version, BLOCK, MOST_FILES};
+use crate::{sound, write, BlockMap, Catalogue, Choice, Merge, Move, Version, BLOCK, MOST_FILES};
 
 /// The answer of a call, or the number of its refusal.
 pub type Answer = Result<u64, u8>;
@@ -75,6 +75,11 @@ fn look_for_remove(cat: &[u8], disk: &[u8], id: u16) -> Result<BlockMap, u8> {
     let catalogue = catalogue_in(cat)?;
     refuse_lowest(&[(4, wrong_disk(&catalogue, disk)), (5, id == 0), (6, catalogue.entry(id).is_none())])?;
     Ok(BlockMap::of(&catalogue))
+}
+
+/// The merges of the removal of an id, in order, if two free sections are chosen like that.
+pub fn removal_merges(choice: Choice, cat: &[u8], disk: &[u8], id: u16) -> Result<Vec<Merge>, u8> {
+    Ok(look_for_remove(cat, disk, id)?.remove_by(choice, id))
 }
 
 /// The buddies that the removal of an id moves, in order.

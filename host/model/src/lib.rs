@@ -19,9 +19,11 @@ mod writing;
 
 pub use blocks::{BlockMap, Owner};
 pub use book::Book;
-pub use calls::{add, breaks, check, format, free, read, removal_copies, removal_moves, remove, Answer};
+pub use calls::{
+    add, breaks, check, format, free, read, removal_copies, removal_merges, removal_moves, remove, Answer,
+};
 pub use carry::carries;
-pub use moving::Move;
+pub use moving::{buddies_first, two_lowest, Choice, Merge, Move};
 pub use reading::{sound, Catalogue, Entry, Pair};
 pub use versions::Version;
 pub use writing::write;

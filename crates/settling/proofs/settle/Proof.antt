@@ -13,7 +13,7 @@ use Rattle.piece_lists.proofs.Arrays.{length-of-mapped}
 use Rattle.table.proofs.FilesMoving.{FilesMoving, moving-can, moving-end, moving-kept, moving-long}
 use Rattle.table.specs.declared.Table.{Table}
 use Rattle.table.proofs.FilesMoving.{moving-more, moving-places, moving-start}
-use Rattle.settling.proofs.FreeBeside.{moving-beside, ready-beside, withFree}
+use Rattle.settling.proofs.FreeBeside.{moving-beside, ready-beside, settling-in-order, withFree}
 use Rattle.settling.proofs.Settling.{Settling, settling-start, settling-ready, settling-copies, settling-more}
 use Rattle.settling.proofs.Settling.{settling-countable, settling-end}
 use Rattle.settling.proofs.settle.Statement.{statement}
@@ -40,7 +40,7 @@ merges-holds c =
     (settling-start (a .args .table) (a .args .disk .now) (a .pre), long)
 
 lowest-pair-requires : tie.Need-lowest-pair-requires Inv-files μ-files Inv-merges μ-merges
-lowest-pair-requires c κs = c .merges .inv .0 .sized .free
+lowest-pair-requires c κs = (c .merges .inv .0 .sized .free, settling-in-order _ _ _ _ _ (c .merges .inv .0))
 
 copy-merge-requires : tie.Need-copy-merge-requires Inv-files μ-files Inv-merges μ-merges
 copy-merge-requires c κs =

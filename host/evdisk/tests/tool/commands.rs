@@ -32,6 +32,22 @@ fn case_7_is_listed_and_drawn() {
     assert!(!map.contains('\u{1b}'), "no colours where there is no terminal");
 }
 
+/// For (0,2) and (4,2) event 2 would be copied; (4,2) and (6,2) are the halves of (4,4).
+#[test]
+fn free_buddies_are_joined_first() {
+    for scratch in [Scratch::disk(8, &[(1, 1), (2, 2), (3, 3)]), Scratch::large_disk(8, &[(1, 1), (2, 2), (3, 3)])] {
+        let image = scratch.read("d");
+        assert_eq!(scratch.does("remove d 1"), "removed 1: 0 blocks copied (contract limit 0)\n");
+        assert_eq!(scratch.does("remove d 3"), "removed 3: 0 blocks copied (contract limit 3)\n");
+        let list = "   id  blocks  pieces  breaks  places (first block,length)
+    2       2       1       0  (2,2)
+ free       6       2          (0,2) (4,4)
+8 blocks, ";
+        assert!(scratch.does("list d").starts_with(list), "{}", scratch.does("list d"));
+        assert!(scratch.read("d") == image && scratch.event(2) == scratch.read("event-2"));
+    }
+}
+
 #[test]
 fn shifted_events_are_read_back_equal() {
     let events: Vec<(u16, usize)> = (1..=40).map(|id| (id, 1 + usize::from(id) * 7 % 23)).collect();

@@ -3,6 +3,7 @@
 mod book;
 mod cases;
 mod common;
+mod free_buddies;
 mod held_blocks;
 mod refusals;
 mod soundness;

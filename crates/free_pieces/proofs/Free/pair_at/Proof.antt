@@ -101,7 +101,8 @@ returns c =
     let m = a .self .count in
     let items = a .self .items in
     let once : withoutAt (a .low) (take m items) ≡ take (m - 1) (f .items) =
-    f .inv .4 ∙ withoutAt-end (f .items) m (f .i) noPiece (omega (arith, f .inv .0, f .inv .1)) (omega (arith, f .inv .3))
+    f .inv .4
+    ∙ withoutAt-end (f .items) m (f .i) noPiece (omega (arith, f .inv .0, f .inv .1)) (omega (arith, f .inv .3))
     (omega (arith, c .before .before .before .before .before .first-test .left)) (f .inv .2) in
     let twice : withoutAt (a .next) (take (m - 1) (f .items)) ≡ take (m - 1 - 1) (g .items) =
     g .inv .4

@@ -3,3 +3,4 @@ pub mod SeenPlaces
 pub mod Arrays
 pub mod EachItem
 pub mod Insertion
+pub mod PutAmong

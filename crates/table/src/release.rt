@@ -12,21 +12,41 @@ use crate::Entry;
 use crate::Table;
 use free_pieces::Free;
 
-// The free pieces with those of a file.
+// The free pieces with those of a file, from the last one on. Each is put in its place here, by the loops of
+// `Free::with`, and not by that function, since a list that is passed on is copied.
 fn free_with(free: Free, e: Entry) -> Free
     requires { ⌜ (InPlaces e) × (free .count + e .pieces .count ≤ freePlaces) ⌝ }
     ensures { λ r. ⌜ Lists (free .count + e .pieces .count) (insertAll (piecesIn e) (freeOf free)) r ⌝ }
 {
     let list = e.pieces;
-    let items = list.items;
-    let mut all = free;
-    let mut j = list.count;
-    while 0 < j {
-        j -= 1;
-        let piece = items[j];
-        all = all.with(piece);
+    let mut count = free.count;
+    let mut items = free.items;
+    let mut k = list.count;
+    'pieces: while 0 < k {
+        k -= 1;
+        let piece = list.items[k];
+        let first = piece.first();
+        let mut place = count;
+        let mut i = count;
+        'place: while 0 < i {
+            i -= 1;
+            let x = items[i];
+            if first <= x.first() {
+                place = i;
+            }
+        }
+        let mut carry = piece;
+        let mut j = place;
+        'shift: while j < count {
+            let x = items[j];
+            items[j] = carry;
+            carry = x;
+            j += 1;
+        }
+        items[count] = carry;
+        count += 1;
     }
-    all
+    Free { count, items }
 }
 
 impl Table {

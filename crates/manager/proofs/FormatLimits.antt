@@ -9,6 +9,7 @@ use Rattle.catalogue.specs.Version.{here, later, version1, version2}
 use Rattle.catalogue.specs.declared.Version.{Version}
 use Rattle.layout.specs.Lists.{done, more}
 use Rattle.manager.proofs.Catalogues.{NoVersion}
+use Rattle.manager.proofs.ClaimWords.{claim-reaches-large, claim-reaches-small}
 use Rattle.manager.proofs.FormatRefusals.{format-lowest-refusal}
 use Rattle.manager.proofs.WholeList.{whole-list}
 use Rattle.manager.specs.Conditions.{answered, refused}
@@ -25,14 +26,10 @@ module _ (cat d : List ℕ) where
 
   -- the small catalogue takes 1 to 4,096 blocks
   pub small-least : length cat ≡ 4096 → length d ≡ 512 → formatOutcome cat d .reply ≡ answered 1
-  small-least c n =
-      whole-list .format-answers version1 1 cat d
-      (record { known = here; some = omega arith; most = omega arith; catalogue = c; disk = n })
+  small-least c n = claim-reaches-small whole-list 1 (omega arith) (omega arith) cat d c n .0
 
   pub small-most : length cat ≡ 4096 → length d ≡ 512 * 4096 → formatOutcome cat d .reply ≡ answered 4096
-  small-most c n =
-      whole-list .format-answers version1 4096 cat d
-      (record { known = here; some = omega arith; most = omega arith; catalogue = c; disk = n })
+  small-most c n = claim-reaches-small whole-list 4096 (omega arith) (omega arith) cat d c n .0
 
   pub small-past : length cat ≡ 4096 → length d ≡ 512 * 4097 → formatOutcome cat d .reply ≡ refused 2
   small-past c n =
@@ -41,14 +38,10 @@ module _ (cat d : List ℕ) where
 
   -- the large one 1 to 1,048,576
   pub large-least : length cat ≡ 16384 → length d ≡ 512 → formatOutcome cat d .reply ≡ answered 1
-  large-least c n =
-      whole-list .format-answers version2 1 cat d
-      (record { known = later here; some = omega arith; most = omega arith; catalogue = c; disk = n })
+  large-least c n = claim-reaches-large whole-list 1 (omega arith) (omega arith) cat d c n .0
 
   pub large-most : length cat ≡ 16384 → length d ≡ 512 * 1048576 → formatOutcome cat d .reply ≡ answered 1048576
-  large-most c n =
-      whole-list .format-answers version2 1048576 cat d
-      (record { known = later here; some = omega arith; most = omega arith; catalogue = c; disk = n })
+  large-most c n = claim-reaches-large whole-list 1048576 (omega arith) (omega arith) cat d c n .0
 
   pub large-past : length cat ≡ 16384 → length d ≡ 512 * 1048577 → formatOutcome cat d .reply ≡ refused 2
   large-past c n =

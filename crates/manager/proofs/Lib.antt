@@ -16,12 +16,17 @@ pub mod Steps
 pub mod Agreement
 pub mod ReadBack
 pub mod Refusals
+pub mod Untouched
 pub mod Deciding
 pub mod ConditionLists
 pub mod Catalogues
 pub mod TableRows
 pub mod LowestRefusal
+pub mod RefusalNumbers
 pub mod FormatRefusals
 pub mod WholeList
+pub mod FormatAnswered
+pub mod ClaimWords
+pub mod LineFiles
 pub mod FormatLimits
 pub mod Printed

@@ -36,7 +36,7 @@ use borrow.Author.Tests.{ne-eqb}
 use mathlib.Core.Bool.{not}
 
 -- the reply of a call that nothing refuses
-abbrev replyOf : Call → List ℕ → List ℕ → Reading → Reply
+abbrev pub replyOf : Call → List ℕ → List ℕ → Reading → Reply
 replyOf (add i bs) cat d x = doAdd (versionOf cat) i bs cat d x .reply
 replyOf (remove i) cat d x = doRemove (versionOf cat) i cat d x .reply
 replyOf (read i p o) cat d x = doRead i p o cat d x .reply
@@ -50,7 +50,7 @@ unless-reply allowed cat d o x = refl
 unless-reply (refusal n) cat d o x = refl
 
 -- the reply is the first refusal, or what is replied if there is none
-reply-is : (c : Call) (cat d : List ℕ)
+pub reply-is : (c : Call) (cat d : List ℕ)
     → perform c cat d .reply
     ≡ replyUnless (firstRefusal (conditionsOf c cat d)) (replyOf c cat d (readCatalogue (versionOf cat) cat))
 unfolding addIn removeIn readIn breaksIn freeIn checkIn

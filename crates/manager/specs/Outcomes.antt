@@ -128,11 +128,21 @@ freeReply cat = freeIn (versionOf cat) cat
 abbrev pub checkReply : List ℕ → List ℕ → Reply
 checkReply cat d = checkIn (versionOf cat) cat d
 
--- a call of a list
+-- breaks and free get no disk
+abbrev pub breaksOutcome : ℕ → List ℕ → Outcome
+breaksOutcome i cat = outcome (breaksReply i cat) cat [] []
+
+abbrev pub freeOutcome : List ℕ → Outcome
+freeOutcome cat = outcome (freeReply cat) cat [] []
+
+abbrev pub checkOutcome : List ℕ → List ℕ → Outcome
+checkOutcome cat d = outcome (checkReply cat d) cat d []
+
+-- a call of a list; the disk that breaks and free do not get stays as it is
 abbrev pub perform : Call → List ℕ → List ℕ → Outcome
 perform (add i bs) cat d = addOutcome i bs cat d
 perform (remove i) cat d = removeOutcome i cat d
 perform (read i p o) cat d = readOutcome i p o cat d
 perform (breaks i) cat d = outcome (breaksReply i cat) cat d []
 perform free cat d = outcome (freeReply cat) cat d []
-perform check cat d = outcome (checkReply cat d) cat d []
+perform check cat d = checkOutcome cat d

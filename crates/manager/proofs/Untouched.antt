@@ -1,0 +1,81 @@
+-- What a call leaves of the buffers that it never writes, whatever it is called with: a read leaves catalogue and disk,
+-- format the disk, and format, add and remove have no output. Assumes nothing.
+use mathlib.Core.List.{List, []}
+use mathlib.Core.Path.{_≡_, refl}
+use Prim.Native.Nat.{ℕ}
+use Rattle.catalogue.specs.Reading.{Reading, readCatalogue, sound, unsound}
+use Rattle.catalogue.specs.Version.{versionOf}
+use Rattle.layout.specs.Adding.{Allocated, allocate, allocated, tooFew}
+use Rattle.layout.specs.Layout.{Found, findFile, found, missing}
+use Rattle.manager.specs.Conditions.{Judgement, Outcome, addConditions, allowed, firstRefusal, formatConditions}
+use Rattle.manager.specs.Conditions.{readConditions, refusal, removeConditions, unlessRefused}
+use Rattle.manager.specs.Disk.{pageCount}
+use Rattle.manager.specs.Outcomes.{addIn, addOutcome, addPieces, doAdd, doRead, doRemove, formatIn}
+use Rattle.manager.specs.Outcomes.{formatOutcome, readFound, readIn, readOutcome, removeFound, removeIn}
+use Rattle.manager.specs.Outcomes.{removeOutcome}
+use Rattle.section.specs.Limits.{heightCount}
+
+-- refused calls keep all, so what the call does decides
+unless-all : (P : Outcome → Type 0) (j : Judgement) (cat d o : List ℕ) (act : Outcome)
+    → ((n : ℕ) → P (unlessRefused (refusal n) cat d o act)) → P act → P (unlessRefused j cat d o act)
+unless-all P allowed cat d o act r a = a
+unless-all P (refusal n) cat d o act r a = r n
+
+abbrev Keeps : List ℕ → List ℕ → Outcome → Type 0
+Keeps cat d x = (x .catalogue ≡ cat) × (x .disk ≡ d)
+
+abbrev Silent : Outcome → Type 0
+Silent x = x .output ≡ []
+
+pub read-keeps : (i p : ℕ) (o cat d : List ℕ)
+    → (readOutcome i p o cat d .catalogue ≡ cat) × (readOutcome i p o cat d .disk ≡ d)
+unfolding readIn
+read-keeps i p o cat d =
+    unless-all (Keeps cat d) (firstRefusal (readConditions (versionOf cat) i p o cat d)) cat d o _ (λ n. (refl, refl))
+    (reading (readCatalogue (versionOf cat) cat))
+  where
+    file : (x : Found) → Keeps cat d (readFound p o cat d x)
+    file (found f) = (refl, refl)
+    file missing = (refl, refl)
+
+    reading : (x : Reading) → Keeps cat d (doRead i p o cat d x)
+    reading (sound l) = file (findFile i (l .files))
+    reading unsound = (refl, refl)
+
+pub format-keeps-disk : (cat d : List ℕ) → formatOutcome cat d .disk ≡ d
+unfolding formatIn
+format-keeps-disk cat d =
+    unless-all (λ x. x .disk ≡ d) (firstRefusal (formatConditions (versionOf cat) cat d)) cat d [] _ (λ n. refl) refl
+
+pub format-no-output : (cat d : List ℕ) → formatOutcome cat d .output ≡ []
+unfolding formatIn
+format-no-output cat d =
+    unless-all Silent (firstRefusal (formatConditions (versionOf cat) cat d)) cat d [] _ (λ n. refl) refl
+
+pub add-no-output : (i : ℕ) (bs cat d : List ℕ) → addOutcome i bs cat d .output ≡ []
+unfolding addIn
+add-no-output i bs cat d =
+    unless-all Silent (firstRefusal (addConditions (versionOf cat) i bs cat d)) cat d [] _ (λ n. refl)
+    (reading (readCatalogue (versionOf cat) cat))
+  where
+    reading : (x : Reading) → Silent (doAdd (versionOf cat) i bs cat d x)
+    reading (sound l) = pieces (allocate 0 heightCount (pageCount bs) (l .free))
+      where
+        pieces : (a : Allocated) → Silent (addPieces (versionOf cat) i bs cat d l a)
+        pieces (allocated s r) = refl
+        pieces tooFew = refl
+    reading unsound = refl
+
+pub remove-no-output : (i : ℕ) (cat d : List ℕ) → removeOutcome i cat d .output ≡ []
+unfolding removeIn
+remove-no-output i cat d =
+    unless-all Silent (firstRefusal (removeConditions (versionOf cat) i cat d)) cat d [] _ (λ n. refl)
+    (reading (readCatalogue (versionOf cat) cat))
+  where
+    reading : (x : Reading) → Silent (doRemove (versionOf cat) i cat d x)
+    reading (sound l) = file (findFile i (l .files))
+      where
+        file : (x : Found) → Silent (removeFound (versionOf cat) cat d l x)
+        file (found f) = refl
+        file missing = refl
+    reading unsound = refl

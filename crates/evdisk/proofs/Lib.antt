@@ -1,3 +1,6 @@
 -- The laws of the exported calls, by subject.
 pub mod Signed
+pub mod CodesApart
 mod Within
+pub mod ExportedList
+pub mod CodeWords

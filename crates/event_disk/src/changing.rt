@@ -15,6 +15,7 @@ pub fn add(cat: &mut [u8], disk: &mut [u8], id: u16, content: &[u8]) -> Answer
         ≡ addOutcome id (now (content .entry)) (now (cat .entry)) (now (disk .entry)) .catalogue ⌝ }
     ensures disk { λ _. ⌜ now (disk .exit)
         ≡ addOutcome id (now (content .entry)) (now (cat .entry)) (now (disk .entry)) .disk ⌝ }
+    ensures content { λ _. ⌜ now (content .exit) ≡ now (content .entry) ⌝ }
 {
     let o = open(cat);
     if !o.entered {

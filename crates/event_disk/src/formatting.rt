@@ -11,7 +11,7 @@ pub fn format(cat: &mut [u8], disk: &[u8]) -> Answer
     ensures answer { λ r. ⌜ replyOf r ≡ formatOutcome (now (cat .entry)) (now (disk .entry)) .reply ⌝ }
     ensures catalogue { λ _. ⌜ now (cat .exit)
         ≡ formatOutcome (now (cat .entry)) (now (disk .entry)) .catalogue ⌝ }
-    ensures disk { λ _. ⌜ now (disk .entry) ≡ formatOutcome (now (cat .entry)) (now (disk .entry)) .disk ⌝ }
+    ensures disk { λ _. ⌜ now (disk .exit) ≡ formatOutcome (now (cat .entry)) (now (disk .entry)) .disk ⌝ }
 {
     let version = Version::of_length(cat.len());
     if cat.len() != version.bytes {

@@ -1,6 +1,6 @@
 // The calls that change no catalogue: it is loaded once, and the call answers from its table.
 ghost use mathlib.Core.Path.{_≡_};
-ghost use Rattle.manager.specs.Outcomes.{breaksReply, checkReply, freeReply, readOutcome};
+ghost use Rattle.manager.specs.Outcomes.{breaksOutcome, checkOutcome, freeOutcome, readOutcome};
 ghost use Rattle.looking.specs.Answers.{replyOf};
 use crate::catalogues::open;
 use looking::Answer;
@@ -9,6 +9,10 @@ use looking::Answer;
 pub fn read(cat: &[u8], disk: &[u8], id: u16, first: u64, out: &mut [u8]) -> Answer
     ensures answer { λ r. ⌜ replyOf r
         ≡ readOutcome id first (now (out .entry)) (now (cat .entry)) (now (disk .entry)) .reply ⌝ }
+    ensures catalogue { λ _. ⌜ now (cat .exit)
+        ≡ readOutcome id first (now (out .entry)) (now (cat .entry)) (now (disk .entry)) .catalogue ⌝ }
+    ensures disk { λ _. ⌜ now (disk .exit)
+        ≡ readOutcome id first (now (out .entry)) (now (cat .entry)) (now (disk .entry)) .disk ⌝ }
     ensures output { λ _. ⌜ now (out .exit)
         ≡ readOutcome id first (now (out .entry)) (now (cat .entry)) (now (disk .entry)) .output ⌝ }
 {
@@ -22,7 +26,8 @@ pub fn read(cat: &[u8], disk: &[u8], id: u16, first: u64, out: &mut [u8]) -> Ans
 
 // Answers how many breaks a file has.
 pub fn breaks(cat: &[u8], id: u16) -> Answer
-    ensures answer { λ r. ⌜ replyOf r ≡ breaksReply id (now (cat .entry)) ⌝ }
+    ensures answer { λ r. ⌜ replyOf r ≡ breaksOutcome id (now (cat .entry)) .reply ⌝ }
+    ensures catalogue { λ _. ⌜ now (cat .exit) ≡ breaksOutcome id (now (cat .entry)) .catalogue ⌝ }
 {
     let o = open(cat);
     if !o.entered {
@@ -34,7 +39,8 @@ pub fn breaks(cat: &[u8], id: u16) -> Answer
 
 // Answers how many blocks are free.
 pub fn free(cat: &[u8]) -> Answer
-    ensures answer { λ r. ⌜ replyOf r ≡ freeReply (now (cat .entry)) ⌝ }
+    ensures answer { λ r. ⌜ replyOf r ≡ freeOutcome (now (cat .entry)) .reply ⌝ }
+    ensures catalogue { λ _. ⌜ now (cat .exit) ≡ freeOutcome (now (cat .entry)) .catalogue ⌝ }
 {
     let o = open(cat);
     if !o.entered {
@@ -47,7 +53,10 @@ pub fn free(cat: &[u8]) -> Answer
 
 // Answers how many blocks the disk has, if it is as long as the catalogue says.
 pub fn check(cat: &[u8], disk: &[u8]) -> Answer
-    ensures answer { λ r. ⌜ replyOf r ≡ checkReply (now (cat .entry)) (now (disk .entry)) ⌝ }
+    ensures answer { λ r. ⌜ replyOf r ≡ checkOutcome (now (cat .entry)) (now (disk .entry)) .reply ⌝ }
+    ensures catalogue { λ _. ⌜ now (cat .exit)
+        ≡ checkOutcome (now (cat .entry)) (now (disk .entry)) .catalogue ⌝ }
+    ensures disk { λ _. ⌜ now (disk .exit) ≡ checkOutcome (now (cat .entry)) (now (disk .entry)) .disk ⌝ }
 {
     let o = open(cat);
     if !o.entered {

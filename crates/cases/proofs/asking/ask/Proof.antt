@@ -127,7 +127,7 @@ returns-5 c =
     let t = p .before .before in
     let a = t .before .before .before .before .before .args in
     as-asked (a .id) (a .first) (a .buffer .now) (a .cat .now) (a .disk .now)
-    (t .enum-told5 .given .1) (p .breaks .ensures)
+    (t .enum-told5 .given .1) (p .breaks .ensures .0)
 
 same-length-12 : tie.Need-same-length-12
 same-length-12 c = search needs
@@ -138,7 +138,7 @@ returns-6 c =
     let t = p .before .before in
     let a = t .before .before .before .before .before .args in
     as-asked (a .id) (a .first) (a .buffer .now) (a .cat .now) (a .disk .now)
-    (t .enum-told6 .given .1) (p .free .ensures)
+    (t .enum-told6 .given .1) (p .free .ensures .0)
 
 same-length-13 : tie.Need-same-length-13
 same-length-13 c = search needs
@@ -152,7 +152,7 @@ returns-7 c =
     let t = p .before .before .before in
     let a = t .before .before .before .before .before .args in
     as-asked (a .id) (a .first) (a .buffer .now) (a .cat .now) (a .disk .now)
-    (t .enum-told7 .given .1) (p .check .ensures)
+    (t .enum-told7 .given .1) (p .check .ensures .0)
 
 pub ask-spec : {M : Type 1} → statement M
 ask-spec =

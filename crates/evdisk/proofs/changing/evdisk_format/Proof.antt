@@ -1,6 +1,7 @@
 -- `evdisk::changing::evdisk_format` meets its contract: the call's outcome, its answer a number. Assumes nothing.
-use mathlib.Core.Path.{_∙_, ap}
+use mathlib.Core.Path.{_∙_, ap, sym}
 use borrow.Author.Needs.{needs}
+use Rattle.manager.proofs.Untouched.{format-no-output}
 use Rattle.evdisk.specs.Codes.{codeOf}
 use Rattle.evdisk.proofs.changing.evdisk_format.Statement.{statement}
 use Rattle.evdisk.proofs.changing.evdisk_format.Tie as tie
@@ -16,8 +17,24 @@ same-length c = search needs
 
 returns : tie.Need-returns
 returns c =
-    let e = c .before .before .before .format .ensures in
-    (c .code .ensures .1 ∙ (c .code .ensures .0 ∙ ap codeOf (e .0)), (e .1 .0, e .1 .1))
+    let b = c .before .before .before in
+    let a = b .before .before .before .before .args in
+    let e = b .format .ensures in
+    let number = c .code .ensures .1 ∙ (c .code .ensures .0 ∙ ap codeOf (e .0)) in (
+      number,
+      (
+        e .1 .0,
+        (
+          e .1 .1,
+          record {
+            answer = number;
+            catalogue = e .1 .0;
+            disk = e .1 .1;
+            output = sym (format-no-output (a .cat .now) (a .disk .now));
+          },
+        ),
+      ),
+    )
 
 pub evdisk-format-spec : {M : Type 1} → statement M
 evdisk-format-spec = tie.close (tie.spec format-requires code-requires same-length returns)

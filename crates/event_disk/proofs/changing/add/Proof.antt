@@ -1,6 +1,6 @@
 -- `event_disk::changing::add` meets its contract: each return has the outcome of the definition. Assumes nothing.
 use mathlib.Core.List.{List, []}
-use mathlib.Core.Path.{_∙_, ap}
+use mathlib.Core.Path.{_∙_, ap, refl}
 use Prim.Native.Nat.{ℕ}
 use borrow.Author.Needs.{needs}
 use borrow.Author.Tests.{not-false, not-true}
@@ -32,7 +32,7 @@ returns c =
     let e = add-refused (versionOf cat) cat (shut .number) (shut .first) (a .args .id) (a .args .content .now) disk in
     let full = addOutcome (a .args .id) (a .args .content .now) cat disk in
     let s = shut-out cat disk [] (o .«open» .result .refusal) shut full e in
-    (s .0, (s .1, s .2))
+    (s .0, (s .1, (s .2, refl)))
 
 add-in-requires : tie.Need-add-in-requires
 add-in-requires c κs =
@@ -79,7 +79,7 @@ returns-2 c =
     let answer = ap replyOf (s .store-changed .ensures .0) ∙ made-reply _ past cat cat′ d′ q m st full on in
     let catalogue = made-catalogue _ past cat cat′ d′ q m st full on in
     let after = made-disk _ past cat cat′ d′ q m st full on in
-    (answer, (catalogue, after))
+    (answer, (catalogue, (after, refl)))
 
 pub add-spec : {M : Type 1} → statement M
 add-spec =

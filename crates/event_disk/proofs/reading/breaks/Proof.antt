@@ -1,5 +1,5 @@
 -- `event_disk::reading::breaks` meets its contract: each return has the reply of the definition. Assumes nothing.
-use mathlib.Core.Path.{_∙_, sym}
+use mathlib.Core.Path.{_∙_, refl, sym}
 use borrow.Author.Needs.{needs}
 use borrow.Author.Tests.{not-false, not-true}
 use Rattle.catalogue.specs.Version.{versionOf}
@@ -16,7 +16,8 @@ returns c =
     let o = c .before .before in
     let a = o .before .before .args in
     let shut = o .«open» .ensures .shut (not-true _ (c .if1 .taken)) in
-    shut .reply ∙ sym (breaks-refused (versionOf (a .cat .now)) (a .cat .now) (shut .number) (shut .first) (a .id))
+    let refused = breaks-refused (versionOf (a .cat .now)) (a .cat .now) (shut .number) (shut .first) (a .id) in
+    (shut .reply ∙ sym refused, refl)
 
 breaks-in-requires : tie.Need-breaks-in-requires
 breaks-in-requires c κs =
@@ -29,8 +30,8 @@ returns-2 c =
     let a = o .before .before .args in
     let entered = o .«open» .ensures .entered (not-false _ (c .before .before .if1 .left)) in
     let l = layoutOf (o .«open» .result .table) in
-    c .breaks-in .ensures ∙ sym (breaks-on-read (versionOf (a .cat .now)) (a .cat .now) l (entered .bytes)
-    (entered .reading) (a .id))
+    let read = breaks-on-read (versionOf (a .cat .now)) (a .cat .now) l (entered .bytes) (entered .reading) in
+    (c .breaks-in .ensures ∙ sym (read (a .id)), refl)
 
 pub breaks-spec : {M : Type 1} → statement M
 breaks-spec = tie.close (tie.spec open-requires returns breaks-in-requires returns-2)

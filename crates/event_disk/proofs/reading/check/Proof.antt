@@ -16,8 +16,8 @@ returns c =
     let o = c .before .before in
     let a = o .before .before .before .args in
     let shut = o .«open» .ensures .shut (not-true _ (c .if1 .taken)) in
-    shut .reply ∙ sym (check-refused (versionOf (a .cat .now)) (a .cat .now) (shut .number) (shut .first)
-    (a .disk .now))
+    let refused = check-refused (versionOf (a .cat .now)) (a .cat .now) (shut .number) (shut .first) in
+    (shut .reply ∙ sym (refused (a .disk .now)), (refl, refl))
 
 check-in-requires : tie.Need-check-in-requires
 check-in-requires c κs =
@@ -31,7 +31,7 @@ returns-2 c =
     let entered = o .«open» .ensures .entered (not-false _ (c .before .before .if1 .left)) in
     let l = layoutOf (o .«open» .result .table) in
     let read = check-on-read (versionOf (a .cat .now)) (a .cat .now) l (entered .bytes) (entered .reading) in
-    c .check-in .ensures (a .disk .now) refl ∙ sym (read (a .disk .now))
+    (c .check-in .ensures (a .disk .now) refl ∙ sym (read (a .disk .now)), (refl, refl))
 
 pub check-spec : {M : Type 1} → statement M
 check-spec = tie.close (tie.spec open-requires returns check-in-requires returns-2)

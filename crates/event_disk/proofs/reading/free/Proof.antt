@@ -1,5 +1,5 @@
 -- `event_disk::reading::free` meets its contract: each return has the reply of the definition. Assumes nothing.
-use mathlib.Core.Path.{_∙_, ap, sym}
+use mathlib.Core.Path.{_∙_, ap, refl, sym}
 use Rattle.manager.specs.Conditions.{answered}
 use borrow.Author.Needs.{needs}
 use borrow.Author.Tests.{not-false, not-true}
@@ -17,7 +17,7 @@ returns c =
     let o = c .before .before in
     let a = o .before .before .args in
     let shut = o .«open» .ensures .shut (not-true _ (c .if1 .taken)) in
-    shut .reply ∙ sym (free-refused (versionOf (a .cat .now)) (a .cat .now) (shut .number) (shut .first))
+    (shut .reply ∙ sym (free-refused (versionOf (a .cat .now)) (a .cat .now) (shut .number) (shut .first)), refl)
 
 free-in-requires : tie.Need-free-in-requires
 free-in-requires c κs = c .before .before .before .«open» .ensures .entered (not-false _ (c .before .if1 .left)) .opened
@@ -29,7 +29,7 @@ returns-2 c =
     let entered = o .«open» .ensures .entered (not-false _ (c .before .before .if1 .left)) in
     let l = layoutOf (o .«open» .result .table) in
     let read = free-on-read (versionOf (a .cat .now)) (a .cat .now) l (entered .bytes) (entered .reading) in
-    ap answered (c .free-in .ensures .equal) ∙ sym read
+    (ap answered (c .free-in .ensures .equal) ∙ sym read, refl)
 
 pub free-spec : {M : Type 1} → statement M
 free-spec = tie.close (tie.spec open-requires returns free-in-requires returns-2)

@@ -6,6 +6,7 @@ use Rattle.catalogue.specs.Version.{versionOf}
 use Rattle.table.specs.Tables.{layoutOf}
 use Rattle.manager.specs.Outcomes.{readOutcome}
 use Rattle.manager.proofs.OnRead.{read-on-read, read-refused}
+use Rattle.manager.proofs.Untouched.{read-keeps}
 use Rattle.event_disk.proofs.Entering.{shut-out}
 use Rattle.event_disk.proofs.reading.read.Statement.{statement}
 use Rattle.event_disk.proofs.reading.read.Tie as tie
@@ -24,7 +25,7 @@ returns c =
     let e = read-refused (versionOf cat) cat (shut .number) (shut .first) (a .id) (a .first) out disk in
     let full = readOutcome (a .id) (a .first) out cat disk in
     let s = shut-out cat disk out (o .«open» .result .refusal) shut full e in
-    (s .0, s .3)
+    (s .0, (s .1, (s .2, s .3)))
 
 read-in-requires : tie.Need-read-in-requires
 read-in-requires c κs =
@@ -45,7 +46,9 @@ returns-2 c =
     let on = read-on-read (versionOf cat) cat l (entered .bytes) (entered .reading) in
     let e = on (a .id) (a .first) (a .out .now) (a .disk .now) in
     let m = r .read-in .ensures in
-    (m .0 cat ∙ sym (ap (λ x. x .reply) e), m .1 cat ∙ sym (ap (λ x. x .output) e))
+    let kept = read-keeps (a .id) (a .first) (a .out .now) cat (a .disk .now) in
+    let output = m .1 cat ∙ sym (ap (λ x. x .output) e) in
+    (m .0 cat ∙ sym (ap (λ x. x .reply) e), (sym (kept .0), (sym (kept .1), output)))
 
 pub read-spec : {M : Type 1} → statement M
 read-spec =

@@ -1,0 +1,100 @@
+-- What the words of the claim about exported calls mean, from its own definitions and from any proof of it, and that its
+-- lists are there: whatever is called, the calls' own outcomes make one. Assumes nothing.
+use mathlib.Core.List.{List, [], _∷_}
+use mathlib.Core.Logic.{_↔_, _⊎_, inl, inr}
+use mathlib.Core.Path.{_∙_, _≡_, ap, refl, sym}
+use Prim.Native.Nat.{_*_, _≤_, ℕ}
+use native.Mathlib.Omega.{arith}
+use lib.IntN.{ℤ, negℤ, pos}
+use lib.ListN.{length}
+use Rattle.catalogue.specs.Version.{here, later, version1, version2}
+use Rattle.catalogue.specs.declared.Version.{Version}
+use Rattle.manager.specs.Book.{BookReply, answers, anyNumber, freshBook, refuses}
+use Rattle.manager.specs.Call.{Call, ListedCall, add, breaks, check, free, read, remove}
+use Rattle.manager.specs.Conditions.{Outcome}
+use Rattle.manager.specs.Outcomes.{formatOutcome, perform}
+use Rattle.manager.specs.WholeList.{RightLengths}
+use Rattle.evdisk.proofs.CodesApart.{codes-apart, refusals-apart}
+use Rattle.evdisk.specs.Codes.{codeOf}
+use Rattle.evdisk.specs.ExportedList.{AltersBy, AsPromised, CodeOfBook, CodesFollow, ExportedCall, ExportedList}
+use Rattle.evdisk.specs.ExportedList.{Promised, Returned, returned}
+
+-- ---- at each call
+
+-- minus n comes back exactly if the book refuses with n
+pub code-refuses-exactly : (s : BookReply) (r : ℤ) → CodeOfBook s r → (n : ℕ) → 1 ≤ n
+    → (r ≡ negℤ (pos n)) ↔ (s ≡ refuses n)
+code-refuses-exactly (refuses m) r (some, e) n one = (
+  λ p. ap refuses (refusals-apart m n (sym e ∙ p)),
+  λ p. e ∙ ap (λ z. negℤ (pos z)) (let z : m ≡ n = cc in z),
+)
+code-refuses-exactly (answers m) r e n one = (
+  λ p. absurd (codes-apart n m one (sym p ∙ e)),
+  λ p. absurd (let z : _≡_ {A = ℕ} 0 1 = cc in omega arith),
+)
+code-refuses-exactly anyNumber r (m, e) n one = (
+  λ p. absurd (codes-apart n m one (sym p ∙ e)),
+  λ p. absurd (let z : _≡_ {A = ℕ} 0 1 = cc in omega arith),
+)
+
+-- and where the book answers n, n does
+pub code-answers-alike : (n : ℕ) (r : ℤ) → CodeOfBook (answers n) r → r ≡ pos n
+code-answers-alike n r e = e
+
+-- what alters anything is an add or a removal that gives back 0 or more
+pub code-alters-only : (c : Call) (r : ℤ) → AltersBy c r
+    → ((n : ℕ) × (r ≡ pos n)) × (((i : ℕ) × (bs : List ℕ) × (c ≡ add i bs)) ⊎ ((i : ℕ) × (c ≡ remove i)))
+code-alters-only (add i bs) r a = (a, inl (i, bs, refl))
+code-alters-only (remove i) r a = (a, inr (i, refl))
+code-alters-only (read i p o) r a = absurd a
+code-alters-only (breaks i) r a = absurd a
+code-alters-only free r a = absurd a
+code-alters-only check r a = absurd a
+
+-- ---- which lists
+
+abbrev givenBack : Outcome → Returned
+givenBack o = returned (codeOf (o .reply)) (o .catalogue) (o .disk) (o .output)
+
+-- a list of calls with what they give back
+abbrev calledOn : List ListedCall → List ℕ → List ℕ → List ExportedCall
+calledOn [] cat d = []
+calledOn (c ∷ cs) cat d =
+    let o : Outcome = perform (c .call) cat d in
+    (record { listed = c; gave = givenBack o }) ∷ calledOn cs (o .catalogue) (o .disk)
+
+-- every list of calls is one that the claim is about
+pub every-list-promised : (cs : List ListedCall) (cat d : List ℕ) → Promised (calledOn cs cat d) cat d
+every-list-promised [] cat d = tt
+every-list-promised (c ∷ cs) cat d = (
+  record { answer = refl; catalogue = refl; disk = refl; output = refl },
+  every-list-promised cs (perform (c .call) cat d .catalogue) (perform (c .call) cat d .disk),
+)
+
+-- ---- which disks
+
+-- format gives back c, and every list of calls after it follows a fresh book of c blocks
+abbrev Claimed : ℕ → List ℕ → List ℕ → Type 0
+Claimed c cat d =
+    (r : Returned) → AsPromised (formatOutcome cat d) r
+    → (r .code ≡ pos c) × ((cs : List ExportedCall) → Promised cs (r .catalogue) (r .disk)
+    → (v : Version) × CodesFollow v cs (r .catalogue) (r .disk) (freshBook c))
+
+claimed : ExportedList → (v : Version) (c : ℕ) (cat d : List ℕ) → RightLengths v c cat d → Claimed c cat d
+claimed w v c cat d right r p =
+    let code = w .format-answers v c cat d r p right in
+    (code, λ cs ps. let x = w .list c cat d r p code cs ps in (x .0, x .2))
+
+-- with the small catalogue of 4,096 bytes on every disk of 1 to 4,096 blocks
+pub exported-reaches-small : ExportedList → (c : ℕ) → 1 ≤ c → c ≤ 4096 → (cat d : List ℕ) → length cat ≡ 4096
+    → length d ≡ 512 * c → Claimed c cat d
+exported-reaches-small w c some most cat d lc ld =
+    claimed w version1 c cat d
+    (record { known = here; some = some; most = omega (arith, most); catalogue = lc; disk = ld })
+
+-- with the large one of 16,384 bytes on every disk of 1 to 1,048,576 blocks
+pub exported-reaches-large : ExportedList → (c : ℕ) → 1 ≤ c → c ≤ 1048576 → (cat d : List ℕ) → length cat ≡ 16384
+    → length d ≡ 512 * c → Claimed c cat d
+exported-reaches-large w c some most cat d lc ld =
+    claimed w version2 c cat d
+    (record { known = later here; some = some; most = omega (arith, most); catalogue = lc; disk = ld })

@@ -6,6 +6,7 @@ use mathlib.Core.Path.{_∙_, _≡_, ap, subst, sym}
 use Prim.Native.Nat.{_*_, _+_, _≤_, ℕ}
 use native.Mathlib.Omega.{arith}
 use lib.ListN.{length}
+use Rattle.manager.specs.Changes.{Adds, RemovesFrom}
 use Rattle.section.specs.Limits.{blockSize, heightCount}
 use Rattle.layout.proofs.Finding.{found-find}
 use Rattle.layout.proofs.RemovedRoom.{RoomAfter, removal-room}
@@ -18,8 +19,8 @@ use Rattle.catalogue.specs.declared.Version.{Version}
 use Rattle.manager.specs.Conditions.{Outcome, unpaged}
 use Rattle.manager.specs.Disk.{pageCount}
 use Rattle.manager.specs.Outcomes.{addOutcome, removeOutcome}
-use Rattle.manager.proofs.AddFromSound.{Adds, add-from-sound}
-use Rattle.manager.proofs.RemoveFromSound.{RemovesFrom, remove-from-sound}
+use Rattle.manager.proofs.AddFromSound.{add-from-sound}
+use Rattle.manager.proofs.RemoveFromSound.{remove-from-sound}
 use Rattle.manager.proofs.AllHeights.{all-heights}
 
 -- the layout that the removal of f leaves

@@ -25,7 +25,8 @@ use Rattle.manager.proofs.Judging.{allowed-none, answered-allowed, none
 use Rattle.manager.proofs.Lines.{write-line}
 use Rattle.manager.proofs.OnSound.{add-on-sound}
 use Rattle.manager.proofs.Writing.{Paged, lines-same, write-back, write-length, write-other}
-use Rattle.manager.specs.Book.{contentPages, writeLine}
+use Rattle.manager.specs.Book.{writeLine}
+use Rattle.manager.specs.Changes.{Adds}
 use Rattle.manager.specs.Conditions.{Outcome, addChecks, allowed, answered, condition, firstRefusal}
 use Rattle.manager.specs.Conditions.{unlessRefused, unpaged}
 use Rattle.manager.specs.Disk.{block, cutPages, pageCount, pagesOn, writePages}
@@ -35,25 +36,6 @@ use Rattle.section.specs.Limits.{blockSize, mostFiles, heightCount}
 use Rattle.section.specs.Sections.{lengthOf}
 use Rattle.section.specs.declared.Section.{Section}
 use Rattle.manager.proofs.AllHeights.{all-heights, own-heights}
-
--- all that an answered add of the content bs as id i does to the layout l and the disk d
-pub record Adds (v : Version) (l : Layout) (d : List ℕ) (i : ℕ) (bs : List ℕ) (o : Outcome) : Type 0 where
-  pub pieces : List Section
-  pub rest : List Section
-  -- one piece for each 1 of n, from the highest down
-  pub allocation : allocate 0 heightCount (pageCount bs) (l .free) ≡ allocated pieces rest
-  pub reply : o .reply ≡ answered (pageCount bs)
-  pub catalogue : o .catalogue ≡ encode v (withFile i pieces rest l)
-  pub sound-after : Sound (v .heights) (withFile i pieces rest l)
-  pub output : o .output ≡ []
-  pub disk-length : length (o .disk) ≡ blockSize * l .blocks
-  -- the new file's blocks hold the content's pages in page order
-  pub pages : pagesOn (o .disk) pieces ≡ cutPages (pageCount bs) bs
-  -- blocks that were not of a free piece that is now the file's keep their bytes
-  pub others : (x : ℕ) → sumOf (holdsBlock x) pieces ≡ 0 → block (o .disk) x ≡ block d x
-  -- and so the other files keep their pages
-  pub lines : map (lineOn (o .disk)) (withFile i pieces rest l .files)
-      ≡ writeLine (record { id = i; pages = contentPages bs }) (map (lineOn d) (l .files))
 
 -- an add succeeds if no condition applies: the id is new, the content paged, there is room for a file and for its
 -- blocks

@@ -9,17 +9,14 @@ use Rattle.catalogue.proofs.Fields.{Bytes}
 use Rattle.catalogue.proofs.Roomy.{roomy, version-of-one}
 use Rattle.catalogue.proofs.Versions.{reading-any}
 use Rattle.catalogue.specs.Reading.{readCatalogue, sound, unsound}
-use Rattle.catalogue.specs.Version.{OneOf, versionFor, versionOf, versions}
+use Rattle.catalogue.specs.Version.{versionFor, versionOf}
 use Rattle.catalogue.specs.declared.Version.{Version}
 use Rattle.layout.specs.Layout.{Layout}
 use Rattle.manager.proofs.Deciding.{Decides, decides-equal}
 use Rattle.manager.proofs.Deciding.{decides-not, decides-same}
 use Rattle.manager.specs.Conditions.{wrongCatalogue}
+use Rattle.manager.specs.Formatting.{NoVersion}
 use Rattle.manager.specs.Table.{CatalogueOf}
-
--- the catalogue has the length of no version
-abbrev pub NoVersion : List ℕ → Type 0
-NoVersion cat = (v : Version) → OneOf v versions → length cat ≡ v .bytes → ⊥
 
 module _ (cat : List ℕ) (bytes : Bytes cat) (n : length cat ≡ versionOf cat .bytes) where
   -- the layout that is read is the catalogue's

@@ -8,11 +8,11 @@ use Rattle.catalogue.proofs.Roomy.{each-one}
 use Rattle.catalogue.specs.Version.{here, later, version1, version2}
 use Rattle.catalogue.specs.declared.Version.{Version}
 use Rattle.layout.specs.Lists.{done, more}
-use Rattle.manager.proofs.Catalogues.{NoVersion}
 use Rattle.manager.proofs.ClaimWords.{claim-reaches-large, claim-reaches-small}
 use Rattle.manager.proofs.FormatRefusals.{format-lowest-refusal}
 use Rattle.manager.proofs.WholeList.{whole-list}
 use Rattle.manager.specs.Conditions.{answered, refused}
+use Rattle.manager.specs.Formatting.{NoVersion}
 use Rattle.manager.specs.Outcomes.{formatOutcome}
 
 module _ (cat d : List ℕ) where

@@ -3,9 +3,9 @@
 -- nothing.
 use mathlib.Core.Bool.{Bool, false, true}
 use mathlib.Core.List.{List, [], _∷_}
-use mathlib.Core.Logic.{_↔_, _⊎_, inl, inr}
+use mathlib.Core.Logic.{_⊎_, inl, inr}
 use mathlib.Core.Path.{_∙_, _≡_, ap, refl, subst, sym}
-use Prim.Native.Nat.{_%_, _*_, _<_, _≤_, ℕ}
+use Prim.Native.Nat.{_%_, _<_, ℕ}
 use native.Mathlib.Omega.{arith}
 use lib.ListN.{length}
 use Rattle.catalogue.proofs.Roomy.{roomy, version-of-one}
@@ -13,31 +13,21 @@ use Rattle.catalogue.specs.Encoding.{encode}
 use Rattle.catalogue.specs.Version.{OneOf, greatestBlocks, versionFor, versions}
 use Rattle.catalogue.specs.declared.Version.{Version}
 use Rattle.layout.specs.Layout.{freshLayout}
-use Rattle.manager.proofs.Catalogues.{NoVersion, decides-length}
+use Rattle.manager.proofs.Catalogues.{decides-length}
 use Rattle.manager.proofs.Deciding.{Decides, decides-below, decides-or}
 use Rattle.manager.proofs.Deciding.{equal-if-never-unequal}
 use Rattle.manager.proofs.Refusals.{answered-not-refused}
 use Rattle.manager.proofs.TableRows.{decides-unpaged}
-use Rattle.manager.specs.Conditions.{Reply, answered, condition, firstRefusal, noDisk, outcome, refused}
+use Rattle.manager.specs.Conditions.{answered, condition, firstRefusal, noDisk, outcome}
 use Rattle.manager.specs.Conditions.{unlessRefused, wrongCatalogue}
 use Rattle.manager.specs.Disk.{pageCount}
+use Rattle.manager.specs.Formatting.{FormatRefused, SomeDisk, NoVersion}
 use Rattle.manager.specs.Outcomes.{formatIn, formatOutcome}
 use Rattle.section.specs.Limits.{blockSize, heightCount}
-
--- d has the length of C blocks, for a C from 1 to the version's greatest
-abbrev pub SomeDisk : Version → List ℕ → Type 0
-SomeDisk v d = (C : ℕ) × (1 ≤ C) × (C ≤ greatestBlocks v) × (length d ≡ blockSize * C)
 
 -- what the condition on the disk tests
 abbrev WrongLength : Version → List ℕ → Type 0
 WrongLength v d = ((length d ≡ 0) ⊎ (length d % blockSize ≡ 0 → ⊥)) ⊎ (greatestBlocks v < pageCount d)
-
--- when a format gives each of its numbers
-pub record FormatRefused (cat d : List ℕ) (r : Reply) : Type 0 where
-  pub catalogue-length : (r ≡ refused 1) ↔ NoVersion cat
-  pub disk-length : (r ≡ refused 2)
-      ↔ ((v : Version) × OneOf v versions × (length cat ≡ v .bytes) × (SomeDisk v d → ⊥))
-  pub no-other : (n : ℕ) → r ≡ refused n → (n ≡ 1) ⊎ (n ≡ 2)
 
 -- the condition on the disk tells that there is no such C
 pub decides-no-disk : (v : Version) (d : List ℕ) → Decides (SomeDisk v d → ⊥) (noDisk v d)

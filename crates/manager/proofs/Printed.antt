@@ -14,7 +14,8 @@ use Rattle.catalogue.specs.Reading.{Reading, readCatalogue, sound, unsound}
 use Rattle.catalogue.specs.Version.{OneOf, versionFor, versionOf, versions}
 use Rattle.catalogue.specs.declared.Version.{Version}
 use Rattle.layout.specs.Layout.{Layout}
-use Rattle.manager.proofs.Catalogues.{NoVersion, read-catalogue}
+use Rattle.manager.proofs.Catalogues.{read-catalogue}
+use Rattle.manager.specs.Formatting.{NoVersion}
 use Rattle.manager.specs.Printing.{layoutText, printed, printedIn, readingText, refusalText}
 use Rattle.manager.specs.Table.{CatalogueOf}
 

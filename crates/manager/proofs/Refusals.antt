@@ -12,6 +12,7 @@ use Rattle.layout.specs.Adding.{Allocated, allocate, allocated, tooFew}
 use Rattle.layout.specs.Layout.{Found, findFile, found, freshLayout, missing}
 use Rattle.layout.specs.Removing.{copiesOf, removal}
 use Rattle.manager.specs.Call.{Call, add, breaks, check, free, outputOf, read, remove}
+use Rattle.manager.specs.Changes.{Unchanged}
 use Rattle.manager.specs.Conditions.{Judgement, Outcome, Reply, addConditions, allowed, answered}
 use Rattle.manager.specs.Conditions.{firstRefusal, formatConditions, outcome, readConditions, refusal}
 use Rattle.manager.specs.Conditions.{refused, removeConditions, unlessRefused}
@@ -20,12 +21,6 @@ use Rattle.manager.specs.Outcomes.{addIn, addPieces, breaksReply, checkR
 use Rattle.manager.specs.Outcomes.{formatIn, formatOutcome, freeReply, perform, readFound, readIn}
 use Rattle.manager.specs.Outcomes.{removeFound, removeIn}
 use Rattle.section.specs.Limits.{heightCount}
-
--- the buffers after a call are those before it
-pub record Unchanged (cat d o : List ℕ) (x : Outcome) : Type 0 where
-  pub catalogue : x .catalogue ≡ cat
-  pub disk : x .disk ≡ d
-  pub output : x .output ≡ o
 
 -- a refusal leaves the buffers
 abbrev RefusedUnchanged : List ℕ → List ℕ → List ℕ → Outcome → Type 0

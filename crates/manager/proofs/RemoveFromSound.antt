@@ -15,42 +15,24 @@ use Rattle.layout.proofs.MergeAll.{merged-reach}
 use Rattle.layout.proofs.Origins.{InDisk, origin-off}
 use Rattle.layout.proofs.Removed.{Removes, removal-keeps}
 use Rattle.layout.proofs.SoundSums.{SoundSums}
-use Rattle.layout.specs.Carries.{carries}
-use Rattle.layout.specs.Layout.{File, Layout, fileBlocks, findFile, found, freeBlocks, hasFile, isFound}
+use Rattle.layout.specs.Layout.{File, Layout, findFile, found, hasFile, isFound}
 use Rattle.layout.specs.Lists.{Each, done, more}
-use Rattle.layout.specs.Removing.{Copy, copiesOf, layoutAfter, release, removal}
+use Rattle.layout.specs.Removing.{copiesOf, layoutAfter, release, removal}
 use Rattle.layout.specs.Sound.{Sound}
 use Rattle.manager.proofs.Blocks.{copies-block, copies-length}
 use Rattle.manager.proofs.Judging.{none-applies}
 use Rattle.manager.proofs.Lines.{find-strike, moved-lines}
 use Rattle.manager.proofs.OnSound.{remove-on-sound}
 use Rattle.manager.specs.Book.{strikeLine}
-use Rattle.manager.specs.Conditions.{Outcome, allowed, answered, condition, fileChecks, firstRefusal}
+use Rattle.manager.specs.Changes.{RemovesFrom}
+use Rattle.manager.specs.Conditions.{allowed, condition, fileChecks, firstRefusal}
 use Rattle.manager.specs.Conditions.{unlessRefused}
-use Rattle.manager.specs.Disk.{block, runCopies}
+use Rattle.manager.specs.Disk.{block}
 use Rattle.manager.specs.Outcomes.{afterMerges, removeFound, removeOutcome}
 use Rattle.manager.specs.WholeList.{lineOn}
 use Rattle.section.specs.Limits.{blockSize, heightCount}
 use Rattle.manager.proofs.AllHeights.{all-heights, own-heights}
 use Rattle.catalogue.specs.Version.{greatestBlocks}
-
--- all that a removal of the file f from the layout l does, with its merges ms
-pub record RemovesFrom (v : Version) (l : Layout) (d : List ℕ) (f : File) (o : Outcome) : Type 0 where
-  pub reply : o .reply ≡ answered (length (copiesOf (removal heightCount f l)))
-  pub catalogue : o .catalogue ≡ encode v (layoutAfter (release f l) (removal heightCount f l))
-  pub sound-after : Sound (v .heights) (layoutAfter (release f l) (removal heightCount f l))
-  pub blocks : layoutAfter (release f l) (removal heightCount f l) .blocks ≡ l .blocks
-  pub disk : o .disk ≡ runCopies d (copiesOf (removal heightCount f l))
-  pub disk-length : length (o .disk) ≡ blockSize * l .blocks
-  pub output : o .output ≡ []
-  -- the other files keep their pages
-  pub lines : map (lineOn (o .disk)) (layoutAfter (release f l) (removal heightCount f l) .files)
-      ≡ strikeLine (f .id) (map (lineOn d) (l .files))
-  -- blocks that are not copied to keep their bytes
-  pub others : (x : ℕ) → Each (λ (c : Copy). x ≡ c .target → ⊥) (copiesOf (removal heightCount f l))
-      → block (o .disk) x ≡ block d x
-  -- copies stay within the carries of f + n
-  pub limit : length (copiesOf (removal heightCount f l)) ≤ carries heightCount (freeBlocks l) (fileBlocks f)
 
 module _ (v : Version) (room : Roomy v) (l : Layout) (s : Sound (v .heights) l) (d : List ℕ)
     (ld : length d ≡ blockSize * l .blocks)

@@ -14,14 +14,13 @@ use Rattle.layout.specs.Carries.{carries}
 use Rattle.layout.specs.Layout.{File, Layout, breaksOf, fileBlocks, findFile, found}
 use Rattle.layout.specs.Removing.{copiesOf, layoutAfter, release, removal}
 use Rattle.layout.specs.Sound.{Sound}
-use Rattle.manager.proofs.AddFromSound.{Adds}
 use Rattle.manager.proofs.Lines.{line-with, lineFound, pages-length}
-use Rattle.manager.proofs.RemoveFromSound.{RemovesFrom}
 use Rattle.manager.proofs.Standing.{Standing, book-free, bookOn}
 use Rattle.manager.specs.Book.{Book, BookReply, BookStep, Line, answers, anyNumber, bookAnswers, bookFree}
 use Rattle.manager.specs.Book.{bookPages, bookRefuses, contentPages, inBook, line, lineWith, strikeLine}
 use Rattle.manager.specs.Book.{writeLine}
 use Rattle.manager.specs.Call.{Call, add, breaks, outputOf, remove}
+use Rattle.manager.specs.Changes.{Adds, RemovesFrom}
 use Rattle.manager.specs.Conditions.{Outcome, answered, outcome, refused}
 use Rattle.manager.specs.Outcomes.{perform}
 use Rattle.manager.specs.Table.{CatalogueOf}

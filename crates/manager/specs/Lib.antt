@@ -8,3 +8,5 @@ pub mod Table
 pub mod Book
 pub mod WholeList
 pub mod Printing
+pub mod Changes
+pub mod Formatting

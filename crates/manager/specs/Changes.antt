@@ -1,0 +1,63 @@
+-- What a call leaves: the buffers as they were where it is refused, and all that an add and a removal do to a sound
+-- catalogue and its disk. Definitions only.
+use mathlib.Core.List.{List, [], map}
+use mathlib.Core.Path.{_≡_}
+use Prim.Native.Nat.{ℕ, _*_, _≤_}
+use lib.ListN.{length}
+use Rattle.catalogue.specs.Encoding.{encode}
+use Rattle.catalogue.specs.declared.Version.{Version}
+use Rattle.layout.specs.Adding.{allocate, allocated, withFile}
+use Rattle.layout.specs.Carries.{carries}
+use Rattle.layout.specs.Layout.{Layout, holdsBlock, File, fileBlocks, freeBlocks}
+use Rattle.layout.specs.Lists.{sumOf, Each}
+use Rattle.layout.specs.Removing.{Copy, copiesOf, layoutAfter, release, removal}
+use Rattle.layout.specs.Sound.{Sound}
+use Rattle.manager.specs.Book.{contentPages, writeLine, strikeLine}
+use Rattle.manager.specs.Conditions.{Outcome, answered}
+use Rattle.manager.specs.Disk.{block, cutPages, pageCount, pagesOn, runCopies}
+use Rattle.manager.specs.WholeList.{lineOn}
+use Rattle.section.specs.Limits.{blockSize, heightCount}
+use Rattle.section.specs.declared.Section.{Section}
+
+-- the buffers after a call are those before it
+pub record Unchanged (cat d o : List ℕ) (x : Outcome) : Type 0 where
+  pub catalogue : x .catalogue ≡ cat
+  pub disk : x .disk ≡ d
+  pub output : x .output ≡ o
+
+-- all that an answered add of the content bs as id i does to the layout l and the disk d
+pub record Adds (v : Version) (l : Layout) (d : List ℕ) (i : ℕ) (bs : List ℕ) (o : Outcome) : Type 0 where
+  pub pieces : List Section
+  pub rest : List Section
+  -- one piece for each 1 of n, from the highest down
+  pub allocation : allocate 0 heightCount (pageCount bs) (l .free) ≡ allocated pieces rest
+  pub reply : o .reply ≡ answered (pageCount bs)
+  pub catalogue : o .catalogue ≡ encode v (withFile i pieces rest l)
+  pub sound-after : Sound (v .heights) (withFile i pieces rest l)
+  pub output : o .output ≡ []
+  pub disk-length : length (o .disk) ≡ blockSize * l .blocks
+  -- the new file's blocks hold the content's pages in page order
+  pub pages : pagesOn (o .disk) pieces ≡ cutPages (pageCount bs) bs
+  -- blocks that were not of a free piece that is now the file's keep their bytes
+  pub others : (x : ℕ) → sumOf (holdsBlock x) pieces ≡ 0 → block (o .disk) x ≡ block d x
+  -- and so the other files keep their pages
+  pub lines : map (lineOn (o .disk)) (withFile i pieces rest l .files)
+      ≡ writeLine (record { id = i; pages = contentPages bs }) (map (lineOn d) (l .files))
+
+-- all that a removal of the file f from the layout l does, with its merges ms
+pub record RemovesFrom (v : Version) (l : Layout) (d : List ℕ) (f : File) (o : Outcome) : Type 0 where
+  pub reply : o .reply ≡ answered (length (copiesOf (removal heightCount f l)))
+  pub catalogue : o .catalogue ≡ encode v (layoutAfter (release f l) (removal heightCount f l))
+  pub sound-after : Sound (v .heights) (layoutAfter (release f l) (removal heightCount f l))
+  pub blocks : layoutAfter (release f l) (removal heightCount f l) .blocks ≡ l .blocks
+  pub disk : o .disk ≡ runCopies d (copiesOf (removal heightCount f l))
+  pub disk-length : length (o .disk) ≡ blockSize * l .blocks
+  pub output : o .output ≡ []
+  -- the other files keep their pages
+  pub lines : map (lineOn (o .disk)) (layoutAfter (release f l) (removal heightCount f l) .files)
+      ≡ strikeLine (f .id) (map (lineOn d) (l .files))
+  -- blocks that are not copied to keep their bytes
+  pub others : (x : ℕ) → Each (λ (c : Copy). x ≡ c .target → ⊥) (copiesOf (removal heightCount f l))
+      → block (o .disk) x ≡ block d x
+  -- copies stay within the carries of f + n
+  pub limit : length (copiesOf (removal heightCount f l)) ≤ carries heightCount (freeBlocks l) (fileBlocks f)

@@ -4,15 +4,15 @@ use mathlib.Core.Path.{_∙_, _≡_, ap, ap₂, subst, sym}
 use Prim.Native.Nat.{_*_, _≤_, ℕ}
 use native.Mathlib.Omega.{arith}
 use lib.ListN.{length}
+use Rattle.layout.specs.Covering.{Whole}
 use Rattle.section.specs.Limits.{blockSize, greatestDisk, heightCount}
 use Rattle.layout.proofs.Finding.{found-find}
-use Rattle.layout.proofs.MergeKeeps.{Whole}
 use Rattle.layout.proofs.Removed.{removal-keeps}
-use Rattle.layout.proofs.SoundSums.{SoundSums}
 use Rattle.layout.proofs.Soundness.{sound-sums, sums-sound}
 use Rattle.layout.specs.Layout.{findFile, found}
 use Rattle.layout.specs.Removing.{copiesOf, layoutAfter, mergeAll, release, removal}
 use Rattle.layout.specs.Sound.{Sound}
+use Rattle.layout.specs.Sums.{SoundSums}
 use Rattle.manager.specs.Disk.{runCopies}
 use Rattle.piece_lists.specs.Few.{piecePlaces}
 use Rattle.table.proofs.Released.{find-at}

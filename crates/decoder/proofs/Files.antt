@@ -14,6 +14,7 @@ use borrow.Author.Tests.{eq-eqb, eqb-false, eqb-true, le-leb, leb-false, leb-tru
 use borrow.Author.Tests.{not-true}
 use Rattle.catalogue.proofs.Tests.{and-intro, pairs-pairwise, pairwise-pairs}
 use Rattle.catalogue.specs.Reading.{Read, bad, fileRead, got, pairwise}
+use Rattle.layout.specs.Covering.{AtMostOne}
 use Rattle.soundness.proofs.Ordered.{distinct, order-both, order-distinct, order-rises, pairwise-and, rising}
 use Rattle.soundness.proofs.Points.{false-true, is-false}
 use Rattle.soundness.specs.Order.{inOrder}
@@ -22,7 +23,6 @@ use Rattle.catalogue.specs.Encoding.{byteValues}
 use Rattle.piece_lists.specs.Few.{piecePlaces}
 use Rattle.layout.proofs.Lists.{length-sort, pairwise-imp, sort-sorted, sum-sort}
 use Rattle.layout.proofs.Ones.{at-most-one-distinct, distinct-at-most-one}
-use Rattle.layout.proofs.Splitting.{AtMostOne}
 use Rattle.layout.specs.Layout.{File, blockCount, byLength, fileBlocks, ofHeight}
 use Rattle.layout.specs.Lists.{Pairwise, sortBy}
 use Rattle.layout.specs.Sound.{greatestId}

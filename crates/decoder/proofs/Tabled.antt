@@ -22,9 +22,9 @@ use Rattle.soundness.specs.Counts.{Exact}
 use Rattle.decoder.specs.Loading.{HeaderAt, TableAt}
 use Rattle.decoder.specs.declared.PairsRead.{PairsRead}
 use Rattle.decoder.specs.declared.TableRead.{TableRead}
-use Rattle.layout.proofs.MergeAll.{rest}
 use Rattle.layout.specs.Layout.{blockCount, fileBlocks}
 use Rattle.layout.specs.Lists.{sumOf}
+use Rattle.layout.specs.Merges.{rest}
 use Rattle.section.proofs.Nested.{inside}
 use Rattle.piece_lists.specs.Few.{listOf, piecePlaces}
 use Rattle.free_pieces.specs.Free.{Lists, freeOf}

@@ -7,11 +7,13 @@ use native.Mathlib.Omega.{arith}
 use lib.ListN.{getD, length, take}
 use lib.Seq.{take-suc}
 use Rattle.layout.proofs.Lists.{sum-append}
-use Rattle.layout.proofs.BuddyPairs.{BuddiesOf, buddyPair-is}
+use Rattle.layout.proofs.BuddyPairs.{buddyPair-is}
 use Rattle.layout.proofs.MergePairs.{mergePair-lowest}
-use Rattle.layout.proofs.Splitting.{countOf, ofHeight-other, ofHeight-same}
-use Rattle.layout.proofs.Taking.{Takes, TakesOf, takeFirst-is, takes-height, takes-sum}
+use Rattle.layout.proofs.Splitting.{ofHeight-other, ofHeight-same}
+use Rattle.layout.proofs.Taking.{TakesOf, takeFirst-is, takes-height, takes-sum}
 use Rattle.layout.specs.Adding.{Taken, nothing, takeFirst, taken}
+use Rattle.layout.specs.Choices.{BuddiesOf, Takes}
+use Rattle.layout.specs.Covering.{countOf}
 use Rattle.layout.specs.Layout.{hasHeight, ofHeight}
 use Rattle.layout.specs.Removing.{MergePair, buddyPair, fewer, lowestTwo, mergePair, pair, secondOf, withLower}
 use Rattle.section.specs.declared.Section.{Section}

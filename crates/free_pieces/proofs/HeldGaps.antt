@@ -10,7 +10,7 @@ use borrow.Author.Tests.{eqb-false, le-ltb, lt-ltb, ne-eqb}
 use Rattle.layout.proofs.Lists.{each-all, each-imp, each-right, sum-append}
 use Rattle.layout.proofs.MergeParts.{MergeParts, buddy-block}
 use Rattle.layout.proofs.Ranges.{inRange-le-one}
-use Rattle.layout.proofs.Taking.{Rising}
+use Rattle.layout.specs.Covering.{Rising}
 use Rattle.layout.specs.Layout.{Layout, filePieces, holdsBlock}
 use Rattle.layout.specs.Lists.{sumOf}
 use Rattle.layout.specs.Removing.{copiesFrom, copyRun, isHeld, mergeCopies}

@@ -10,9 +10,10 @@ use lib.ListN.{drop, getD, length}
 use Rattle.section.specs.declared.Section.{Section}
 use Rattle.section.specs.Sections.{section}
 use Rattle.layout.proofs.MergePairs.{mergePair-lowest}
-use Rattle.layout.proofs.Splitting.{count-none, countOf, ofHeight-same}
+use Rattle.layout.proofs.Splitting.{count-none, ofHeight-same}
 use Rattle.layout.proofs.Taking.{TakesOf, nothing-height, takeFirst-is, takes-height, takes-sum}
 use Rattle.layout.specs.Adding.{takeFirst, taken}
+use Rattle.layout.specs.Covering.{countOf}
 use Rattle.layout.specs.Layout.{hasHeight, ofHeight}
 use Rattle.layout.specs.Removing.{buddyPair, fewer, lowestTwo, mergePair, pair, secondOf, withLower}
 use Rattle.piece_lists.specs.Places.{firstPlace, withoutAt}

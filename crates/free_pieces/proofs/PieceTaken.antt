@@ -10,8 +10,9 @@ use lib.ListN.{length}
 use Rattle.layout.proofs.Allocating.{height-lt}
 use Rattle.layout.proofs.Lists.{each-imp}
 use Rattle.layout.proofs.Ones.{at-most-one-ones}
-use Rattle.layout.proofs.Splitting.{Stock, TakesPiece, TakesPieceOf, at-most-one-small, takePiece-is}
+use Rattle.layout.proofs.Splitting.{TakesPiece, TakesPieceOf, at-most-one-small, takePiece-is}
 use Rattle.layout.specs.Adding.{Taken, nothing, orElse, splitAt, takeOfHeight, takePiece, taken}
+use Rattle.layout.specs.Allocations.{Stock}
 use Rattle.layout.specs.Layout.{byFirst}
 use Rattle.layout.specs.Lists.{insertBy, sumOf}
 use Rattle.section.specs.Limits.{greatestDisk, greatestHeight, heightCount}

@@ -7,18 +7,15 @@ use native.Mathlib.Nat.{lt-of-not-le, mod-lt, mod-one, pow-zero}
 use native.Mathlib.Omega.{arith}
 use lib.Pow.{mod-pow-add, pow-mono}
 use Rattle.layout.proofs.Lists.{each-and, each-imp}
-use Rattle.layout.proofs.Splitting.{AtMostOne, Stock, TakesPieceOf, at-most-one-small, count-none, countOf}
+use Rattle.layout.proofs.Splitting.{TakesPieceOf, at-most-one-small, count-none}
 use Rattle.layout.proofs.Splitting.{ofHeight-other, ofHeight-same, takePiece-is}
 use Rattle.layout.specs.Adding.{Allocated, Taken, allocate, allocated, nothing, takePiece, taken, tooFew}
 use Rattle.layout.specs.Adding.{withPiece}
-use Rattle.layout.specs.Layout.{OnDisk, holdsBlock}
-use Rattle.layout.specs.Lists.{Each, Pairwise, done, more, next, none, sumOf}
-use Rattle.section.specs.Sections.{lengthOf}
+use Rattle.layout.specs.Allocations.{AllocatesOf, Stock}
+use Rattle.layout.specs.Covering.{Falling, AtMostOne, countOf}
+use Rattle.layout.specs.Layout.{OnDisk}
+use Rattle.layout.specs.Lists.{Each, done, more, next, none}
 use Rattle.section.specs.declared.Section.{Section}
-
--- heights fall along the list
-abbrev pub Falling : List Section → Type 0
-Falling l = Pairwise (λ (a b : Section). b .height .value < a .height .value) l
 
 pub falling-thin : {l : List Section} → Falling l → AtMostOne l
 falling-thin none h = omega arith
@@ -32,19 +29,6 @@ falling-thin (next {a = a} {l = l} e f) h = go (ℕ-discrete (a .height .value) 
 pub height-lt : (c k : ℕ) → c < 2 ^ k → (s : Section) → OnDisk c s → s .height .value < k
 height-lt c k p s d =
     lt-of-not-le (λ q. let m : 2 ^ k ≤ 2 ^ s .height .value = pow-mono q in omega (arith, d .within))
-
-pub record Allocates (c h n : ℕ) (free s r : List Section) : Type 0 where
-  pub on : Each (OnDisk c) s
-  pub falling : Falling s
-  pub lower : Each (λ (a : Section). a .height .value < h) s
-  pub stock : Stock c r
-  pub held : (x : ℕ) → sumOf (holdsBlock x) free ≡ sumOf (holdsBlock x) s + sumOf (holdsBlock x) r
-  pub size : sumOf lengthOf free ≡ sumOf lengthOf s + sumOf lengthOf r
-  pub blocks : sumOf lengthOf s ≡ n % 2 ^ h
-
-abbrev pub AllocatesOf : ℕ → ℕ → ℕ → List Section → Allocated → Type 0
-AllocatesOf c h n free (allocated s r) = Allocates c h n free s r
-AllocatesOf c h n free tooFew = sumOf lengthOf free < n % 2 ^ h
 
 -- the remainder by 2^(h+1), by the digit at h
 pub mod-digit : (n h : ℕ) → n % 2 ^ suc h ≡ (n / 2 ^ h % 2) * 2 ^ h + n % 2 ^ h

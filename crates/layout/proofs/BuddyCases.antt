@@ -2,8 +2,8 @@
 -- definitions within this crate. Assumes nothing.
 use mathlib.Core.List.{[], _∷_}
 use mathlib.Core.Path.{_≡_, refl}
-use Rattle.layout.proofs.LayoutCases.{copy, file, removed}
 use Rattle.layout.specs.Adding.{takeFirst}
+use Rattle.layout.specs.Cases.{copy, file, removed}
 use Rattle.layout.specs.Layout.{filePieces, inRange}
 use Rattle.layout.specs.Lists.{insertBy, sortBy}
 use Rattle.layout.specs.Removing.{buddyPair, copiesFrom, copiesOf, copyRun, fewer, insertAll, layoutAfter}

@@ -10,21 +10,16 @@ use lib.Dec.{eqb, ltb}
 use lib.Pow.{pow-pos}
 use borrow.Author.Tests.{eq-eqb, eqb-true, le-ltb, lt-ltb, ltb-true}
 use Rattle.layout.proofs.Lists.{each-imp}
-use Rattle.layout.proofs.Taking.{Takes, TakesOf, takeFirst-is, takeFirst-none, takes-back, takes-test}
+use Rattle.layout.proofs.Taking.{TakesOf, takeFirst-is, takeFirst-none, takes-back, takes-test}
 use Rattle.layout.specs.Adding.{Taken, nothing, takeFirst, taken}
+use Rattle.layout.specs.Choices.{BuddiesOf, BuddyAbove, NoBuddies, Takes}
 use Rattle.layout.specs.Layout.{File, Layout, hasHeight}
 use Rattle.layout.specs.Lists.{Each}
-use Rattle.layout.specs.Removing.{MergePair, buddyPair, fewer, hasFreeBuddy, isBuddyAbove, isTaken, merge}
+use Rattle.layout.specs.Removing.{buddyPair, fewer, hasFreeBuddy, isBuddyAbove, isTaken, merge}
 use Rattle.layout.specs.Removing.{mergeCopies, pair, withBuddy, withLower}
 use Rattle.section.proofs.Booleans.{and-true, false-and}
 use Rattle.section.specs.Sections.{buddyFirst, buddyOf, endOf, lengthOf}
 use Rattle.section.specs.declared.Section.{Section}
-
--- u is the buddy of l, and above it
-pub record BuddyAbove (l u : Section) : Type 0 where
-  pub height : u .height .value ≡ l .height .value
-  pub first : u .first ≡ buddyOf l .first
-  pub above : l .first < u .first
 
 -- ---- the test
 
@@ -88,23 +83,6 @@ upper-no-buddy l u b v = go (isBuddyAbove u v) refl
 -- a test cannot be passed and failed
 no-both : {t : Bool} {X : Type 0} → t ≡ true → t ≡ false → X
 no-both e n = absurd (let z : _≡_ {A = ℕ} 0 1 = cc in omega arith)
-
--- l and u, both of height h, are taken from free one after the other and leave r
-pub record Buddies (h : ℕ) (free : List Section) (l u : Section) (r : List Section) : Type 0 where
-  pub low : l .height .value ≡ h
-  pub buddy : BuddyAbove l u
-  pub between : List Section
-  pub lower : Takes (hasFreeBuddy h free) free l between
-  pub upper : Takes (isBuddyAbove l) between u r
-
--- no section of height h has its buddy above it among them
-abbrev pub NoBuddies : ℕ → List Section → Type 0
-NoBuddies h free =
-    Each (λ (l : Section). l .height .value ≡ h → Each (λ (u : Section). BuddyAbove l u → ⊥) free) free
-
-abbrev pub BuddiesOf : ℕ → List Section → MergePair → Type 0
-BuddiesOf h free (pair l u r) = Buddies h free l u r
-BuddiesOf h free fewer = NoBuddies h free
 
 -- two that are buddies are taken, and if none are taken there are no two
 pub buddyPair-is : (h : ℕ) (free : List Section) → BuddiesOf h free (buddyPair h free)

@@ -9,25 +9,21 @@ use lib.Dec.{leb}
 use lib.Pow.{pow-pos}
 use borrow.Author.Tests.{leb-false, leb-true}
 use Rattle.layout.proofs.Allocating.{mod-digit}
-use Rattle.layout.proofs.MergeAll.{bound}
-use Rattle.layout.specs.Carries.{carries}
+use Rattle.layout.specs.Carries.{carries, digitSum, bound}
 
 module _ (f n : ℕ) where
   -- what is carried into place h
   into : ℕ → ℕ
   into h = (f % 2 ^ h + n % 2 ^ h) / 2 ^ h
 
-  unfoldable pub digitSum : ℕ → ℕ
-  digitSum h = f / 2 ^ h % 2 + n / 2 ^ h % 2
-
-  into-suc : (h : ℕ) → (digitSum h + into h) / 2 ≡ into (suc h)
+  into-suc : (h : ℕ) → (digitSum f n h + into h) / 2 ≡ into (suc h)
   unfolding into digitSum
   into-suc h =
-      sym (ap (λ z. z / 2 ^ suc h) sum ∙ (ap (λ z. (digitSum h * 2 ^ h + (f % 2 ^ h + n % 2 ^ h)) / z) (pow-suc 2 h)
-      ∙ (sym (div-div-eq-div-mul (digitSum h * 2 ^ h + (f % 2 ^ h + n % 2 ^ h)) (2 ^ h) 2)
-      ∙ ap (λ z. z / 2) (mul-add-div-right (pow-pos h) (digitSum h) (f % 2 ^ h + n % 2 ^ h)))))
+      sym (ap (λ z. z / 2 ^ suc h) sum ∙ (ap (λ z. (digitSum f n h * 2 ^ h + (f % 2 ^ h + n % 2 ^ h)) / z) (pow-suc 2 h)
+      ∙ (sym (div-div-eq-div-mul (digitSum f n h * 2 ^ h + (f % 2 ^ h + n % 2 ^ h)) (2 ^ h) 2)
+      ∙ ap (λ z. z / 2) (mul-add-div-right (pow-pos h) (digitSum f n h) (f % 2 ^ h + n % 2 ^ h)))))
     where
-      sum : f % 2 ^ suc h + n % 2 ^ suc h ≡ digitSum h * 2 ^ h + (f % 2 ^ h + n % 2 ^ h)
+      sum : f % 2 ^ suc h + n % 2 ^ suc h ≡ digitSum f n h * 2 ^ h + (f % 2 ^ h + n % 2 ^ h)
       sum = omega (arith, mod-digit f h, mod-digit n h, add-mul (f / 2 ^ h % 2) (n / 2 ^ h % 2) (2 ^ h))
 
   carries-suc : (h : ℕ) → carries (suc h) f n ≡ carries h f n + 2 ^ h * into (suc h)
@@ -52,18 +48,18 @@ module _ (f n : ℕ) where
           div-eq-of-lt (leb-false (2 ^ suc h) (f % 2 ^ suc h + n % 2 ^ suc h) e) in
           omega (arith, ap (λ z. 2 ^ h * z) q)
 
-  bound-is : (m h : ℕ) → carries (h + m) f n ≡ carries h f n + bound m h (into h) digitSum
+  bound-is : (m h : ℕ) → carries (h + m) f n ≡ carries h f n + bound m h (into h) (digitSum f n)
   unfolding bound
   bound-is zero h = let e : h + 0 ≡ h = omega arith in omega (arith, ap (λ z. carries z f n) e)
   bound-is (suc m) h =
       let e : h + suc m ≡ suc h + m = omega arith in
       ap (λ z. carries z f n) e ∙ (bound-is m (suc h)
-      ∙ omega (arith, carries-suc h, ap (λ z. 2 ^ h * z + bound m (suc h) z digitSum) (into-suc h)))
+      ∙ omega (arith, carries-suc h, ap (λ z. 2 ^ h * z + bound m (suc h) z (digitSum f n)) (into-suc h)))
 
-  pub bound-is-carries : (K : ℕ) → bound K 0 0 digitSum ≡ carries K f n
+  pub bound-is-carries : (K : ℕ) → bound K 0 0 (digitSum f n) ≡ carries K f n
   unfolding into carries
   bound-is-carries K =
-      omega (arith, bound-is K 0, ap (λ z. carries z f n) (zero-add K), ap (λ z. bound K 0 z digitSum) none)
+      omega (arith, bound-is K 0, ap (λ z. carries z f n) (zero-add K), ap (λ z. bound K 0 z (digitSum f n)) none)
     where
       none : into 0 ≡ 0
       none = omega arith

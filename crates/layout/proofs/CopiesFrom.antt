@@ -6,7 +6,8 @@ use Prim.Native.Nat.{_+_, _<_, _≤_, suc, zero, ℕ}
 use native.Mathlib.Omega.{arith}
 use lib.ListN.{length}
 use Rattle.layout.specs.Layout.{blockRun}
-use Rattle.layout.specs.Lists.{Each, done, indicator, more, sumOf}
+use Rattle.layout.specs.Lists.{Each, done, indicator, more}
+use Rattle.layout.specs.Merges.{countedIn}
 use Rattle.layout.specs.Removing.{Copy, copiesFrom, copyRun}
 
 module _ (p : ℕ → Bool) where
@@ -46,19 +47,15 @@ module _ (p : ℕ → Bool) where
           subst (Each (λ (c : Copy). P c × (p (c .source) ≡ true))) (sym (from-passed c l z)) (more {a = c} (q, z) r)
       go false z r = subst (Each (λ (c : Copy). P c × (p (c .source) ≡ true))) (sym (from-failed c l z)) r
 
-  -- how many of the n blocks from b on pass
-  abbrev pub countedIn : ℕ → ℕ → ℕ
-  countedIn n b = sumOf (λ x. indicator (p x)) (blockRun b n)
-
   -- the copies of a run are as many as its blocks that pass
-  pub count-from : (n b u : ℕ) → length (copiesFrom p (copyRun b u n)) ≡ countedIn n b
+  pub count-from : (n b u : ℕ) → length (copiesFrom p (copyRun b u n)) ≡ countedIn p n b
   unfolding copyRun blockRun
   count-from zero b u = ap length from-none
   count-from (suc n) b u = go (p b) refl (count-from n (suc b) (suc u))
     where
-      go : (t : Bool) → p b ≡ t → length (copiesFrom p (copyRun (suc b) (suc u) n)) ≡ countedIn n (suc b)
+      go : (t : Bool) → p b ≡ t → length (copiesFrom p (copyRun (suc b) (suc u) n)) ≡ countedIn p n (suc b)
           → length (copiesFrom p ((record { source = b; target = u }) ∷ copyRun (suc b) (suc u) n))
-          ≡ indicator (p b) + countedIn n (suc b)
+          ≡ indicator (p b) + countedIn p n (suc b)
       go true e ih =
           let c : Copy = record { source = b; target = u } in
           omega (arith, ih, ap length (from-passed c (copyRun (suc b) (suc u) n) e), ap indicator e)
@@ -66,16 +63,16 @@ module _ (p : ℕ → Bool) where
           let c : Copy = record { source = b; target = u } in
           omega (arith, ih, ap length (from-failed c (copyRun (suc b) (suc u) n) e), ap indicator e)
 
-  pub counted-le : (n b : ℕ) → countedIn n b ≤ n
+  pub counted-le : (n b : ℕ) → countedIn p n b ≤ n
   unfolding blockRun
   counted-le zero b = omega arith
   counted-le (suc n) b = go (p b) (counted-le n (suc b))
     where
-      go : (t : Bool) → countedIn n (suc b) ≤ n → indicator t + countedIn n (suc b) ≤ suc n
+      go : (t : Bool) → countedIn p n (suc b) ≤ n → indicator t + countedIn p n (suc b) ≤ suc n
       go true q = omega arith
       go false q = omega arith
 
-  pub counted-none : (n b : ℕ) → ((i : ℕ) → i < n → p (b + i) ≡ false) → countedIn n b ≡ 0
+  pub counted-none : (n b : ℕ) → ((i : ℕ) → i < n → p (b + i) ≡ false) → countedIn p n b ≡ 0
   unfolding blockRun
   counted-none zero b f = refl
   counted-none (suc n) b f =
@@ -84,13 +81,13 @@ module _ (p : ℕ → Bool) where
       ap₂ (λ i j. i + j) (ap indicator (sym (ap p x) ∙ f 0 (omega arith)))
       (counted-none n (suc b) (λ i q. ap p (y i) ∙ f (suc i) (omega arith)))
 
-  pub none-counted : (n b : ℕ) → countedIn n b ≡ 0 → (i : ℕ) → i < n → p (b + i) ≡ false
+  pub none-counted : (n b : ℕ) → countedIn p n b ≡ 0 → (i : ℕ) → i < n → p (b + i) ≡ false
   unfolding blockRun
   none-counted zero b e i q = absurd (omega arith)
   none-counted (suc n) b e i q = go (p b) refl e i q (λ f j x. none-counted n (suc b) f j x)
     where
-      go : (t : Bool) → p b ≡ t → indicator t + countedIn n (suc b) ≡ 0 → (i : ℕ) → i < suc n
-          → (countedIn n (suc b) ≡ 0 → (j : ℕ) → j < n → p (suc b + j) ≡ false) → p (b + i) ≡ false
+      go : (t : Bool) → p b ≡ t → indicator t + countedIn p n (suc b) ≡ 0 → (i : ℕ) → i < suc n
+          → (countedIn p n (suc b) ≡ 0 → (j : ℕ) → j < n → p (suc b + j) ≡ false) → p (b + i) ≡ false
       go true s f i q ih = absurd (omega arith)
       go false s f zero q ih = let x : b + 0 ≡ b = omega arith in ap p x ∙ s
       go false s f (suc i) q ih =

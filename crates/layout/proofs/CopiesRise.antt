@@ -1,20 +1,17 @@
 -- A removal's copies: on the disk, each to a higher block, within the limit, and lowering no page. Assumes nothing.
 use mathlib.Core.List.{List}
-use mathlib.Core.Path.{_≡_}
 use Prim.Native.Nat.{_<_, _≤_, ℕ}
 use lib.ListN.{length}
-use Rattle.layout.proofs.FilesMoved.{Moved}
-use Rattle.layout.proofs.Finding.{Find}
 use Rattle.layout.proofs.Lists.{each-append}
-use Rattle.layout.proofs.MergeAll.{MergedAll, merged-reach, rest, step}
-use Rattle.layout.proofs.Origins.{InDisk}
+use Rattle.layout.proofs.MergeAll.{merged-reach}
 use Rattle.layout.proofs.Removed.{removal-keeps}
-use Rattle.layout.proofs.SoundSums.{SoundSums}
-use Rattle.layout.proofs.Zipped.{Zipped, both, ends}
 use Rattle.layout.specs.Carries.{carries}
-use Rattle.layout.specs.Layout.{File, Layout, blocksOf, fileBlocks, freeBlocks}
-use Rattle.layout.specs.Lists.{Each, done}
+use Rattle.layout.specs.Layout.{File, Layout, fileBlocks, freeBlocks}
+use Rattle.layout.specs.Lists.{Each, done, Zipped, both, ends}
+use Rattle.layout.specs.Merges.{InDisk, MergedAll, Moved, rest, step}
+use Rattle.layout.specs.Removals.{NoLower, Find}
 use Rattle.layout.specs.Removing.{Copy, Merge, copiesOf, layoutAfter, release, removal}
+use Rattle.layout.specs.Sums.{SoundSums}
 
 -- the copies of merges go to higher blocks
 pub merged-rise : {c K : ℕ} {w : Layout} {ms : List Merge} → MergedAll c K w ms
@@ -22,11 +19,6 @@ pub merged-rise : {c K : ℕ} {w : Layout} {ms : List Merge} → MergedAll c K w
 unfolding copiesOf
 merged-rise (rest wh t) = done
 merged-rise (step h lt wh low st s) = each-append (st .rise) (merged-rise s)
-
--- g is the file f with each page at the same or a higher block
-pub record NoLower (f g : File) : Type 0 where
-  pub id : g .id ≡ f .id
-  pub pages : Zipped (λ x y. x ≤ y) (blocksOf (f .pieces)) (blocksOf (g .pieces))
 
 -- moved files have no page lower
 none-lower : {cs : List Copy} {fs gs : List File} → Zipped (Moved cs) fs gs → Zipped NoLower fs gs

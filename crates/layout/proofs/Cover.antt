@@ -9,14 +9,11 @@ use native.Mathlib.Omega.{arith}
 use Rattle.layout.proofs.Lists.{each-imp}
 use Rattle.layout.proofs.Ranges.{Position, above, below, inRange-above, inRange-below, inRange-inside}
 use Rattle.layout.proofs.Ranges.{inRange-le-one, position, within}
+use Rattle.layout.specs.Covering.{Covers, Disjoint}
 use Rattle.layout.specs.Layout.{OnDisk, blockCount, holdsBlock, inRange}
-use Rattle.layout.specs.Lists.{Each, Pairwise, done, more, next, none, sumOf}
+use Rattle.layout.specs.Lists.{Each, done, more, next, none, sumOf}
 use Rattle.section.specs.Sections.{Apart, lengthOf}
 use Rattle.section.specs.declared.Section.{Section}
-
--- every block of the disk is in exactly one of the sections, and no other block is in any
-abbrev pub Covers : ℕ → List Section → Type 0
-Covers c l = (x : ℕ) → sumOf (holdsBlock x) l ≡ inRange x 0 c
 
 -- the sumBelow of g over the blocks below c
 pub sumBelow : ℕ → (ℕ → ℕ) → ℕ
@@ -80,10 +77,6 @@ sumBelow-full (suc c) g b e x p =
     go : Dec (x ≡ c) → (x < c → g x ≡ 1) → g x ≡ 1
     go (yes q) r = ap g q ∙ omega (arith, sumBelow-le c g b, b c)
     go (no q) r = r (omega arith)
-
--- pairwise apart
-abbrev pub Disjoint : List Section → Type 0
-Disjoint l = Pairwise (λ (a b : Section). Apart (a .first) (lengthOf a) (b .first) (lengthOf b)) l
 
 off-hits : (x : ℕ) (a b : Section) → Apart (a .first) (2 ^ a .height .value) (b .first) (2 ^ b .height .value)
     → holdsBlock x a ≡ 1 → holdsBlock x b ≡ 0

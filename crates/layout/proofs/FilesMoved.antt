@@ -5,23 +5,17 @@ use mathlib.Core.Path.{_∙_, _≡_, ap, ap₂, refl, subst, sym}
 use Prim.Native.Nat.{_+_, _<_, _^_, _≤_, suc, zero, ℕ}
 use native.Mathlib.Omega.{arith}
 use Rattle.layout.proofs.Lists.{each-left, each-right, map-append}
-use Rattle.layout.proofs.Origins.{origin, origin-append}
-use Rattle.layout.proofs.Zipped.{Zipped, both, ends, map-id, map-map, zipped-append, zipped-refl}
+use Rattle.layout.proofs.Origins.{origin-append}
+use Rattle.layout.proofs.Zipped.{map-id, map-map, zipped-append, zipped-refl}
 use Rattle.layout.proofs.Zipped.{zipped-trans}
 use Rattle.layout.specs.Layout.{File, blockRun, blocksOf, filePieces}
-use Rattle.layout.specs.Lists.{Each, done, more}
+use Rattle.layout.specs.Lists.{Each, done, more, Zipped, both, ends}
+use Rattle.layout.specs.Merges.{Moved, origin}
 use Rattle.layout.specs.Removing.{Copy, movedFile}
+use Rattle.layout.specs.Sums.{shape}
 use Rattle.section.proofs.Moves.{moved-height}
 use Rattle.section.specs.Sections.{lengthOf, movedInto}
 use Rattle.section.specs.declared.Section.{Section}
-
--- what copies cs make of a file: each page came from its old block, and to no lower one
-pub record Moved (cs : List Copy) (f g : File) : Type 0 where
-  pub id : g .id ≡ f .id
-  pub heights : map (λ (s : Section). s .height .value) (g .pieces)
-      ≡ map (λ (s : Section). s .height .value) (f .pieces)
-  pub pages : map (origin cs) (blocksOf (g .pieces)) ≡ blocksOf (f .pieces)
-  pub rises : Zipped (λ x y. x ≤ y) (blocksOf (f .pieces)) (blocksOf (g .pieces))
 
 pub moved-trans : (a b : List Copy) (f g k : File) → Moved a f g → Moved b g k → Moved (a ++ b) f k
 moved-trans a b f g k p q = record {
@@ -115,14 +109,6 @@ module _ (b u : Section) where
         rises = pieces-rise cs p;
       })
       (files-moved cs fs (each-right (f .pieces) (filePieces fs) e))
-
--- id and heights of a file
-pub record Shape : Type 0 where
-  pub id : ℕ
-  pub heights : List ℕ
-
-abbrev pub shape : File → Shape
-shape f = record { id = f .id; heights = map (λ (s : Section). s .height .value) (f .pieces) }
 
 pub moved-shapes : {cs : List Copy} {fs gs : List File} → Zipped (Moved cs) fs gs → map shape gs ≡ map shape fs
 moved-shapes ends = refl

@@ -7,19 +7,14 @@ use native.Mathlib.Omega.{arith}
 use lib.Dec.{eqb, leb}
 use lib.ListN.{length}
 use borrow.Author.Tests.{eq-eqb, eqb-false, eqb-true, ne-eqb}
-use Rattle.layout.proofs.FilesMoved.{Shape, shape}
 use Rattle.layout.proofs.Lists.{each-append, each-left, each-right, sum-append}
-use Rattle.layout.proofs.SoundSums.{RisingIds}
 use Rattle.layout.proofs.Swaps.{same}
 use Rattle.layout.specs.Layout.{File, Found, byId, filePieces, findFile, found, hasFile, isFound}
 use Rattle.layout.specs.Lists.{Each, done, insertBy, more, next, sumOf}
+use Rattle.layout.specs.Removals.{Find, here, there}
 use Rattle.layout.specs.Removing.{withoutFile}
+use Rattle.layout.specs.Sums.{RisingIds, Shape, shape}
 use Rattle.section.specs.declared.Section.{Section}
-
--- f is the file of id i, and r the others
-pub data Find (i : ℕ) : List File → File → List File → Type 0 where
-  here : {f : File} {l : List File} → f .id ≡ i → Find i (f ∷ l) f l
-  there : {g f : File} {l r : List File} → (g .id ≡ i → ⊥) → Find i l f r → Find i (g ∷ l) f (g ∷ r)
 
 pub find : (i : ℕ) (l : List File) → hasFile i l ≡ true → (f : File) × (r : List File) × Find i l f r
 unfolding findFile

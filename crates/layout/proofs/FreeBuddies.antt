@@ -9,10 +9,10 @@ use lib.ListN.{drop, getD, length, take}
 use lib.Pow.{pow-pos}
 use Rattle.layout.proofs.BuddyPairs.{not-above, not-past}
 use Rattle.layout.proofs.Lists.{each-and, each-imp, sum-append, sum-ge-all}
-use Rattle.layout.proofs.MergeKeeps.{Whole}
 use Rattle.layout.proofs.Ranges.{inRange-apart, inRange-le-one}
-use Rattle.layout.proofs.Taking.{Rising, takeFirst-behind, takeFirst-here, takeFirst-none}
+use Rattle.layout.proofs.Taking.{takeFirst-behind, takeFirst-here, takeFirst-none}
 use Rattle.layout.specs.Adding.{Taken, keeping, nothing, takeFirst, taken}
+use Rattle.layout.specs.Covering.{Rising, Whole}
 use Rattle.layout.specs.Layout.{InOrder, Layout, filePieces, holdsBlock}
 use Rattle.layout.specs.Lists.{Each, done, more, next, none, sumOf}
 use Rattle.layout.specs.Removing.{isBuddyAbove, isTaken}

@@ -4,14 +4,14 @@ use mathlib.Core.Path.{_∙_, _≡_, ap, refl, sym}
 use Prim.Native.Nat.{_%_, _*_, _+_, _-_, _/_, _<_, _^_, _≤_, suc, zero, ℕ}
 use native.Mathlib.Nat.{mod-eq-of-lt, mod-lt, mod-self, zero-mod}
 use native.Mathlib.Omega.{arith}
-use Rattle.layout.proofs.Allocating.{Falling, falling-thin, mod-digit}
+use Rattle.layout.proofs.Allocating.{falling-thin, mod-digit}
 use Rattle.layout.proofs.Lists.{each-imp}
 use Rattle.layout.proofs.Ranges.{Position, above, below, inRange-above, inRange-below, inRange-halves}
 use Rattle.layout.proofs.Ranges.{position, within}
-use Rattle.layout.proofs.SoundSums.{SoundSums}
-use Rattle.layout.proofs.Taking.{Rising}
+use Rattle.layout.specs.Covering.{Falling, Rising}
 use Rattle.layout.specs.Layout.{OnDisk, filePieces, freshLayout, holdsBlock, inRange, piecesFrom}
 use Rattle.layout.specs.Lists.{Each, done, more, next, none, sumOf}
+use Rattle.layout.specs.Sums.{SoundSums}
 use Rattle.section.proofs.Multiples.{aligned-lower, multiple-sum}
 use Rattle.section.specs.Sections.{section}
 use Rattle.section.specs.declared.Section.{Section}

@@ -1,23 +1,16 @@
 -- Cases 3, 4, 7, 9, 10 and 11 of document 01 on layouts alone, computed: they pin the definitions within this
 -- crate. The table of all cases on bytes is in the crate `manager`. Assumes nothing.
-use mathlib.Core.List.{List, [], _∷_}
+use mathlib.Core.List.{[], _∷_}
 use mathlib.Core.Path.{_≡_, refl}
-use Prim.Native.Nat.{ℕ}
 use Rattle.layout.specs.Adding.{allocate, allocated, takeFirst, takePiece}
-use Rattle.layout.specs.Layout.{File, Layout, blockRun, blocksOf, filePieces, freshLayout, inRange}
+use Rattle.layout.specs.Cases.{copy, file, removed}
+use Rattle.layout.specs.Layout.{blockRun, blocksOf, filePieces, freshLayout, inRange}
 use Rattle.layout.specs.Layout.{piecesFrom}
 use Rattle.layout.specs.Lists.{insertBy, sortBy}
-use Rattle.layout.specs.Removing.{Copy, buddyPair, copiesFrom, copiesOf, copyRun, insertAll, layoutAfter}
+use Rattle.layout.specs.Removing.{buddyPair, copiesFrom, copiesOf, copyRun, insertAll, layoutAfter}
 use Rattle.layout.specs.Removing.{lowestTwo, merge, mergeAll, mergePair, nextMerge, release, removal}
 use Rattle.layout.specs.Removing.{withoutFile}
 use Rattle.section.specs.Sections.{buddyFirst, isInside, movedInto, parentFirst, section}
-use Rattle.section.specs.declared.Section.{Section}
-
-abbrev pub file : ℕ → List Section → File
-file i l = record { id = i; pieces = l }
-
-abbrev pub copy : ℕ → ℕ → Copy
-copy a b = record { source = a; target = b }
 
 -- case 3: longest first from block 0
 pub case-three : freshLayout 13 261 .free ≡ section 0 8 ∷ section 256 2 ∷ section 260 0 ∷ []
@@ -29,14 +22,6 @@ pub case-four : allocate 0 13 3 (section 0 4 ∷ [])
     ≡ allocated (section 0 1 ∷ section 2 0 ∷ []) (section 3 0 ∷ section 4 2 ∷ section 8 3 ∷ [])
 unfolding allocate takePiece takeFirst insertBy
 case-four = refl
-
--- a removal: its copies, and the layout that it leaves
-pub record Removed : Type 0 where
-  pub copies : List Copy
-  pub after : Layout
-
-abbrev pub removed : File → Layout → Removed
-removed f l = record { copies = copiesOf (removal 13 f l); after = layoutAfter (release f l) (removal 13 f l) }
 
 -- cases 7, 9, 10 and 11
 pub removals :

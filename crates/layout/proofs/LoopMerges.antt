@@ -6,19 +6,20 @@ use native.Mathlib.Decide.{ℕ-discrete}
 use native.Mathlib.Nat.{zero-add}
 use native.Mathlib.Omega.{arith}
 use lib.ListN.{length}
-use Rattle.layout.proofs.Finding.{Find}
 use Rattle.layout.proofs.MergeAll.{mergeAll-is, merged-thin}
-use Rattle.layout.proofs.MergeKeeps.{MergeKeeps, Whole}
-use Rattle.layout.proofs.MergePairs.{MergeableOf, mergePair-is}
+use Rattle.layout.proofs.MergePairs.{mergePair-is}
 use Rattle.layout.proofs.MergeStep.{merge-keeps}
 use Rattle.layout.proofs.Removed.{release-whole}
-use Rattle.layout.proofs.SoundSums.{SoundSums}
-use Rattle.layout.proofs.Splitting.{AtMostOne, countOf, ofHeight-same}
-use Rattle.layout.proofs.Taking.{Rising}
+use Rattle.layout.proofs.Splitting.{ofHeight-same}
+use Rattle.layout.specs.Choices.{MergeableOf}
+use Rattle.layout.specs.Covering.{AtMostOne, Rising, Whole, countOf}
 use Rattle.layout.specs.Layout.{File, Layout, ofHeight}
 use Rattle.layout.specs.Loop.{mergesAt, mergesFrom}
+use Rattle.layout.specs.Merges.{MergeKeeps}
+use Rattle.layout.specs.Removals.{Find}
 use Rattle.layout.specs.Removing.{Merge, MergePair, Next, due, fewer, layoutAfter, merge, mergeAll, mergePair}
 use Rattle.layout.specs.Removing.{nextMerge, pair, release, removal, settled}
+use Rattle.layout.specs.Sums.{SoundSums}
 use Rattle.section.specs.declared.Section.{Section}
 
 -- a height with at most one free piece has no two to merge

@@ -5,19 +5,20 @@ use Prim.Native.Nat.{_+_, _≤_, suc, zero, ℕ}
 use native.Mathlib.Nat.{zero-add}
 use native.Mathlib.Omega.{arith}
 use lib.ListN.{length}
-use Rattle.layout.proofs.Finding.{Find}
 use Rattle.layout.proofs.LoopMerges.{below-suc, none-counts, pair-fewer}
-use Rattle.layout.proofs.MergeKeeps.{MergeKeeps, Whole}
 use Rattle.layout.proofs.MergeOrder.{AtMostFrom, carry-on, released-two}
-use Rattle.layout.proofs.MergePairs.{MergeableOf, mergePair-is}
+use Rattle.layout.proofs.MergePairs.{mergePair-is}
 use Rattle.layout.proofs.MergeStep.{merge-keeps}
 use Rattle.layout.proofs.Merging.{carried}
 use Rattle.layout.proofs.Removed.{release-whole}
-use Rattle.layout.proofs.SoundSums.{SoundSums}
-use Rattle.layout.proofs.Splitting.{countOf}
+use Rattle.layout.specs.Choices.{MergeableOf}
+use Rattle.layout.specs.Covering.{Whole, countOf}
 use Rattle.layout.specs.Layout.{File, Layout}
 use Rattle.layout.specs.Loop.{mergesAt, mergesFrom, mergesOfHeight}
+use Rattle.layout.specs.Merges.{MergeKeeps}
+use Rattle.layout.specs.Removals.{Find}
 use Rattle.layout.specs.Removing.{Merge, MergePair, fewer, layoutAfter, merge, mergePair, pair, release}
+use Rattle.layout.specs.Sums.{SoundSums}
 
 -- the layout after two runs of merges is that after the second from where the first ends
 pub layout-after-append : (w : Layout) (a b : List Merge) → layoutAfter w (a ++ b) ≡ layoutAfter (layoutAfter w a) b

@@ -7,24 +7,21 @@ use native.Mathlib.Nat.{mul-suc, not-le-of-lt, zero-add}
 use native.Mathlib.Omega.{arith}
 use lib.ListN.{length, length-append}
 use Rattle.layout.proofs.Allocating.{height-lt}
-use Rattle.layout.proofs.FilesMoved.{Moved, moved-refl, moved-trans}
+use Rattle.layout.proofs.FilesMoved.{moved-refl, moved-trans}
 use Rattle.layout.proofs.Lists.{each-append, each-imp, each-right}
-use Rattle.layout.proofs.MergeKeeps.{MergeKeeps, Whole}
-use Rattle.layout.proofs.MergePairs.{MergeableOf, mergePair-is}
+use Rattle.layout.proofs.MergePairs.{mergePair-is}
 use Rattle.layout.proofs.MergeStep.{merge-keeps}
-use Rattle.layout.proofs.Origins.{InDisk}
-use Rattle.layout.proofs.Splitting.{AtMostOne, count-none, countOf, ofHeight-other, ofHeight-same}
-use Rattle.layout.proofs.Zipped.{Zipped, zipped-refl, zipped-trans}
+use Rattle.layout.proofs.Splitting.{count-none, ofHeight-other, ofHeight-same}
+use Rattle.layout.proofs.Zipped.{zipped-refl, zipped-trans}
+use Rattle.layout.specs.Carries.{bound}
+use Rattle.layout.specs.Choices.{MergeableOf}
+use Rattle.layout.specs.Covering.{AtMostOne, Whole, countOf}
 use Rattle.layout.specs.Layout.{Layout, filePieces}
-use Rattle.layout.specs.Lists.{Each, done}
+use Rattle.layout.specs.Lists.{Each, done, Zipped}
+use Rattle.layout.specs.Merges.{MergedAll, rest, step, Moved, MergeKeeps, InDisk}
 use Rattle.layout.specs.Removing.{Merge, MergePair, Next, copiesOf, due, fewer, layoutAfter, merge, mergeAll}
 use Rattle.layout.specs.Removing.{mergePair, nextMerge, pair, settled}
 use Rattle.section.specs.declared.Section.{Section}
-
--- the place values of the carries from height h up, for counts c and r carried into h, over m heights
-unfoldable pub bound : ℕ → ℕ → ℕ → (ℕ → ℕ) → ℕ
-bound zero h r c = 0
-bound (suc m) h r c = 2 ^ h * ((c h + r) / 2) + bound m (suc h) ((c h + r) / 2) c
 
 pub bound-cong : (m h r : ℕ) (c d : ℕ → ℕ) → ((j : ℕ) → h ≤ j → c j ≡ d j) → bound m h r c ≡ bound m h r d
 unfolding bound
@@ -68,13 +65,6 @@ bound-merge (suc m) h r j c d p q e f g =
         let ch : c h ≡ d h = g h (λ w. z (sym w)) (λ w. omega arith) in
         ap (λ y. 2 ^ h * ((y + r) / 2) + bound m (suc h) ((y + r) / 2) c) ch
         ∙ omega (arith, ih ((d h + r) / 2) (omega arith))
-
--- the merges of a layout, one by one, until no height has two free sections
-pub data MergedAll (c K : ℕ) : Layout → List Merge → Type 0 where
-  rest : {w : Layout} → Whole c w → AtMostOne (w .free) → MergedAll c K w []
-  step : {w : Layout} {m : Merge} {ms : List Merge} (h : ℕ) → h < K → Whole c w
-      → ((j : ℕ) → j < h → countOf j (w .free) ≤ 1) → MergeKeeps c h w m → MergedAll c K (m .after) ms
-      → MergedAll c K w (m ∷ ms)
 
 abbrev pub NextIs : ℕ → ℕ → Layout → Next → Type 0
 NextIs c K w (due m) = (h : ℕ) × (h < K) × ((j : ℕ) → j < h → countOf j (w .free) ≤ 1) × MergeKeeps c h w m

@@ -9,10 +9,11 @@ use lib.Dec.{eqb}
 use borrow.Author.Tests.{eqb-false, eqb-true}
 use Rattle.layout.proofs.CopiesFrom.{each-from}
 use Rattle.layout.proofs.Lists.{each-imp}
-use Rattle.layout.proofs.Origins.{InRun, copyRun-in-run, origin, origin-from, origin-off}
+use Rattle.layout.proofs.Origins.{InRun, copyRun-in-run, origin-from, origin-off}
 use Rattle.layout.proofs.Ranges.{Position, above, below, position, within}
 use Rattle.layout.proofs.Swaps.{SameOrApart, left, right, same, swap, swap-first, swap-off}
 use Rattle.layout.specs.Lists.{Each, done}
+use Rattle.layout.specs.Merges.{origin}
 use Rattle.layout.specs.Removing.{Copy, copiesFrom, copyRun}
 use Rattle.section.specs.Sections.{Apart}
 

@@ -8,21 +8,18 @@ use native.Mathlib.Omega.{arith}
 use lib.Dec.{eqb}
 use lib.ListN.{length}
 use borrow.Author.Tests.{eqb-true, le-ltb}
-use Rattle.layout.proofs.CopiesFrom.{count-from, counted-none, countedIn}
+use Rattle.layout.proofs.CopiesFrom.{count-from, counted-none}
 use Rattle.layout.proofs.Lists.{sum-append}
-use Rattle.layout.proofs.MergeKeeps.{Whole}
-use Rattle.layout.proofs.MergePairs.{Mergeable}
 use Rattle.layout.proofs.MergeParts.{MergeParts, merge-parts}
 use Rattle.layout.proofs.Ranges.{inRange-inside, inRange-le-one}
-use Rattle.layout.specs.Layout.{File, Layout, filePieces, holdsBlock}
+use Rattle.layout.specs.Choices.{Mergeable}
+use Rattle.layout.specs.Covering.{Whole}
+use Rattle.layout.specs.Layout.{Layout, filePieces, holdsBlock}
 use Rattle.layout.specs.Lists.{sumOf}
+use Rattle.layout.specs.Merges.{heldIn}
 use Rattle.layout.specs.Removing.{copiesFrom, copyRun, isHeld, merge}
 use Rattle.section.specs.Sections.{buddyOf, lengthOf}
 use Rattle.section.specs.declared.Section.{Section}
-
--- how many blocks of a section files hold
-abbrev pub heldIn : List File → Section → ℕ
-heldIn fs s = countedIn (isHeld fs) (lengthOf s) (s .first)
 
 pub merge-number : (c : ℕ) (w : Layout) (l u : Section) (r : List Section) → Whole c w
     → Mergeable (l .height .value) (w .free) l u r → length (merge l u r w .copies) ≡ heldIn (w .files) (buddyOf l)

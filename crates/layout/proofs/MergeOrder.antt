@@ -1,26 +1,20 @@
 -- The order of merges: a removal merges at most once at each height, from low to high. Assumes nothing.
-use mathlib.Core.List.{List, [], _∷_}
+use mathlib.Core.List.{List}
 use mathlib.Core.Path.{_≡_, subst, sym}
 use Prim.Native.Nat.{_/_, _<_, _^_, _≤_, suc, ℕ}
 use native.Mathlib.Decide.{decLt, ℕ-discrete}
 use native.Mathlib.Nat.{mod-lt}
 use native.Mathlib.Omega.{arith}
-use Rattle.layout.proofs.CarryBound.{digitSum}
-use Rattle.layout.proofs.Finding.{Find}
 use Rattle.layout.proofs.Lists.{each-imp}
-use Rattle.layout.proofs.MergeAll.{MergedAll, rest, step}
-use Rattle.layout.proofs.MergeKeeps.{MergeKeeps}
 use Rattle.layout.proofs.Removed.{release-counts, removal-keeps}
-use Rattle.layout.proofs.SoundSums.{SoundSums}
-use Rattle.layout.proofs.Splitting.{countOf}
+use Rattle.layout.specs.Carries.{digitSum}
+use Rattle.layout.specs.Covering.{countOf}
 use Rattle.layout.specs.Layout.{File, Layout, fileBlocks, freeBlocks}
 use Rattle.layout.specs.Lists.{Each, Pairwise, done, more, next, none}
+use Rattle.layout.specs.Merges.{mergeHeights, MergedAll, rest, step, MergeKeeps}
+use Rattle.layout.specs.Removals.{Find}
 use Rattle.layout.specs.Removing.{Merge, release}
-
--- the heights of merges, in order
-unfoldable pub mergeHeights : {c K : ℕ} {w : Layout} {ms : List Merge} → MergedAll c K w ms → List ℕ
-mergeHeights (rest wh t) = []
-mergeHeights (step h lt wh low st s) = h ∷ mergeHeights s
+use Rattle.layout.specs.Sums.{SoundSums}
 
 -- a merge has one height: the only one that loses free pieces
 pub merge-height-unique : {c h j : ℕ} {w : Layout} {m : Merge} → MergeKeeps c h w m → MergeKeeps c j w m → j ≡ h

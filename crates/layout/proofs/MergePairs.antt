@@ -2,32 +2,20 @@
 use mathlib.Core.Bool.{Bool}
 use mathlib.Core.List.{List}
 use mathlib.Core.Path.{_∙_, _≡_, refl, subst, sym}
-use Prim.Native.Nat.{_+_, _≤_, ℕ}
+use Prim.Native.Nat.{_≤_, ℕ}
 use native.Mathlib.Nat.{le-of-lt}
 use native.Mathlib.Omega.{arith}
-use Rattle.layout.proofs.BuddyPairs.{BuddiesOf, buddyPair-is}
-use Rattle.layout.proofs.Splitting.{count-none, countOf, ofHeight-same}
-use Rattle.layout.proofs.Taking.{Rising, Takes, TakesOf, nothing-height, takeFirst-is, takes-each}
+use Rattle.layout.proofs.BuddyPairs.{buddyPair-is}
+use Rattle.layout.proofs.Splitting.{count-none, ofHeight-same}
+use Rattle.layout.proofs.Taking.{TakesOf, nothing-height, takeFirst-is, takes-each}
 use Rattle.layout.proofs.Taking.{takes-height, takes-lowest, takes-rising, takes-sum}
 use Rattle.layout.specs.Adding.{Taken, nothing, takeFirst, taken}
-use Rattle.layout.specs.Layout.{OnDisk, hasHeight, ofHeight}
-use Rattle.layout.specs.Lists.{Each, sumOf}
+use Rattle.layout.specs.Choices.{LowestOf, Mergeable, MergeableOf, BuddiesOf, Takes}
+use Rattle.layout.specs.Covering.{Rising}
+use Rattle.layout.specs.Layout.{hasHeight, ofHeight}
 use Rattle.layout.specs.Removing.{MergePair, buddyPair, fewer, lowestTwo, mergePair, pair, secondOf, withLower}
 use Rattle.section.specs.Sections.{buddyOf}
 use Rattle.section.specs.declared.Section.{Section}
-
--- the two that a merge at h takes
-pub record Mergeable (h : ℕ) (free : List Section) (l u : Section) (r : List Section) : Type 0 where
-  pub low : l .height .value ≡ h
-  pub high : u .height .value ≡ h
-  pub order : l .first ≤ u .first
-  pub rising : Rising r
-  pub sum : (w : Section → ℕ) → sumOf w free ≡ w l + (w u + sumOf w r)
-  pub each : (c : ℕ) → Each (OnDisk c) free → OnDisk c l × OnDisk c u × Each (OnDisk c) r
-
-abbrev pub MergeableOf : ℕ → List Section → MergePair → Type 0
-MergeableOf h free (pair l u r) = Mergeable h free l u r
-MergeableOf h free fewer = countOf h free ≤ 1
 
 mergeable : (h : ℕ) (free r r′ : List Section) (l u : Section) → l .height .value ≡ h → u .height .value ≡ h
     → l .first ≤ u .first → Rising free
@@ -58,11 +46,6 @@ lowestTwo-is h free rise = go (takeFirst (hasHeight h) free) (takeFirst-is (hasH
     go : (p : Taken) → TakesOf (hasHeight h) free p → MergeableOf h free (secondOf h p)
     go (taken l r) p = go2 l r p (takeFirst (hasHeight h) r) (takeFirst-is (hasHeight h) r)
     go nothing p = omega (arith, count-none h (nothing-height p))
-
--- the upper one has the lowest first block of all others of its height
-abbrev pub LowestOf : ℕ → MergePair → Type 0
-LowestOf h (pair l u r) = Each (λ (s : Section). s .height .value ≡ h → u .first ≤ s .first) r
-LowestOf h fewer = _≡_ {A = ℕ} 0 0
 
 pub lowestTwo-lowest : (h : ℕ) (free : List Section) → Rising free → LowestOf h (lowestTwo h free)
 unfolding lowestTwo

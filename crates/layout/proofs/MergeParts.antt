@@ -5,15 +5,14 @@ use mathlib.Core.Logic.{inl, inr}
 use mathlib.Core.Path.{_≡_, ap, subst}
 use Prim.Native.Nat.{_+_, _<_, _≤_, ℕ}
 use native.Mathlib.Omega.{arith}
-use Rattle.layout.proofs.Cover.{Covers}
 use Rattle.layout.proofs.Lists.{each-append, each-left, each-right, sum-append}
-use Rattle.layout.proofs.MergeKeeps.{Whole}
-use Rattle.layout.proofs.MergePairs.{Mergeable}
 use Rattle.layout.proofs.Merging.{buddy-below, buddy-on-disk, movable}
 use Rattle.layout.proofs.MovedPieces.{section-eta}
 use Rattle.layout.proofs.Moving.{Movable}
 use Rattle.layout.proofs.Ranges.{inRange-above, inRange-below, inRange-inside}
 use Rattle.layout.proofs.Swaps.{SameOrApart, left, right, same}
+use Rattle.layout.specs.Choices.{Mergeable}
+use Rattle.layout.specs.Covering.{Covers, Whole}
 use Rattle.layout.specs.Layout.{Layout, OnDisk, filePieces, holdsBlock, inRange}
 use Rattle.layout.specs.Lists.{Each, sumOf}
 use Rattle.section.proofs.Buddies.{buddy-aligned, buddy-apart}

@@ -10,11 +10,11 @@ use native.Mathlib.Omega.{arith}
 use lib.Dec.{eqb}
 use lib.Pow.{pow-lt, pow-pos}
 use borrow.Author.Tests.{eqb-false, eqb-true}
-use Rattle.layout.proofs.Cover.{Covers}
 use Rattle.layout.proofs.Lists.{each-and, each-imp, each-map, sum-ge-all}
 use Rattle.layout.proofs.Moving.{Carried, Movable, carry, move-covers, moving}
 use Rattle.layout.proofs.Ranges.{inRange-apart, inRange-halves, inRange-le-one, within}
 use Rattle.layout.proofs.Swaps.{SameOrApart, left, same}
+use Rattle.layout.specs.Covering.{Covers}
 use Rattle.layout.specs.Layout.{OnDisk, holdsBlock, inRange}
 use Rattle.layout.specs.Lists.{Each, more, sumOf}
 use Rattle.section.proofs.Answers.{inside-iff}

@@ -4,7 +4,7 @@ use mathlib.Core.Path.{_∙_, _≡_, ap, refl, sym}
 use Prim.Native.Nat.{ℕ}
 use lib.Dec.{eqb}
 use Rattle.layout.proofs.Lists.{each-all, map-append, sum-cong, sum-map}
-use Rattle.layout.proofs.Splitting.{countOf}
+use Rattle.layout.specs.Covering.{countOf}
 use Rattle.layout.specs.Layout.{File, filePieces, ofHeight}
 use Rattle.layout.specs.Lists.{indicator, sumOf}
 use Rattle.layout.specs.Removing.{movedFile}

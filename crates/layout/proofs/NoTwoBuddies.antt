@@ -6,8 +6,9 @@ use mathlib.Core.Path.{_∙_, _≡_, ap₂, sym}
 use Prim.Native.Nat.{_%_, ℕ}
 use native.Mathlib.Omega.{arith}
 use lib.Pow.{pow-pos}
-use Rattle.layout.proofs.BuddyPairs.{BuddyAbove, no-buddies-left}
+use Rattle.layout.proofs.BuddyPairs.{no-buddies-left}
 use Rattle.layout.proofs.Lists.{each-and, each-given, each-imp, each-swap}
+use Rattle.layout.specs.Choices.{BuddyAbove}
 use Rattle.layout.specs.Layout.{OnDisk}
 use Rattle.layout.specs.Lists.{Each}
 use Rattle.layout.specs.Removing.{buddyPair, fewer}

@@ -7,24 +7,22 @@ use Prim.Native.Nat.{_*_, _+_, _≤_, ℕ}
 use native.Mathlib.Omega.{arith}
 use borrow.Author.Tests.{eqb-true}
 use Rattle.layout.proofs.BuddyPairs.{buddy-above, not-above, upper-no-buddy}
-use Rattle.layout.proofs.Finding.{Find}
 use Rattle.layout.proofs.FreeBuddies.{found-behind, found-next, free-in-order}
 use Rattle.layout.proofs.Lists.{each-all, each-imp, sum-cong}
 use Rattle.layout.proofs.LoopTurns.{at-height, atHeight}
-use Rattle.layout.proofs.SoundSums.{SoundSums}
-use Rattle.layout.proofs.Splitting.{countOf, ofHeight-same}
+use Rattle.layout.proofs.Splitting.{ofHeight-same}
 use Rattle.layout.proofs.Taking.{takeFirst-none}
 use Rattle.layout.specs.Adding.{takeFirst}
+use Rattle.layout.specs.Choices.{buddyPairCount}
+use Rattle.layout.specs.Covering.{countOf}
 use Rattle.layout.specs.Layout.{File, InOrder, Layout, hasHeight}
-use Rattle.layout.specs.Lists.{done, indicator, next, sumOf}
+use Rattle.layout.specs.Lists.{done, indicator, next}
 use Rattle.layout.specs.Loop.{mergesFrom}
+use Rattle.layout.specs.Removals.{Find}
 use Rattle.layout.specs.Removing.{hasFreeBuddy, isBuddyAbove, isTaken, layoutAfter, release}
+use Rattle.layout.specs.Sums.{SoundSums}
 use Rattle.section.proofs.Booleans.{false-and}
 use Rattle.section.specs.declared.Section.{Section}
-
--- how many of the sections of height h have their buddy above them among them
-abbrev pub buddyPairCount : ℕ → List Section → ℕ
-buddyPairCount h free = sumOf (λ (s : Section). indicator (hasFreeBuddy h free s)) free
 
 module _ (h : ℕ) where
   -- the first one's buddy is looked for behind it, and it is the buddy of none behind it

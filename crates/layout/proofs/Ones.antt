@@ -8,14 +8,15 @@ use native.Mathlib.Omega.{arith}
 use lib.Count.{ones, ones-cat, onesIn}
 use lib.ListN.{length}
 use borrow.Author.Tests.{leb-false, leb-true}
-use Rattle.layout.proofs.Allocating.{Falling, falling-thin}
+use Rattle.layout.proofs.Allocating.{falling-thin}
 use Rattle.layout.proofs.Digits.{counts-are-digits}
 use Rattle.layout.proofs.Lists.{each-and, each-imp, length-sort, sort-sorted, sum-ge, sum-ge-all, sum-sort}
-use Rattle.layout.proofs.MergeAll.{rest}
-use Rattle.layout.proofs.Splitting.{AtMostOne, at-most-one-small, count-none, countOf, ofHeight-other}
+use Rattle.layout.proofs.Splitting.{at-most-one-small, count-none, ofHeight-other}
 use Rattle.layout.proofs.Splitting.{ofHeight-same}
+use Rattle.layout.specs.Covering.{AtMostOne, Falling, countOf}
 use Rattle.layout.specs.Layout.{OnePiecePerOne, blockCount, breaksOf, byLength, digit, ofHeight}
 use Rattle.layout.specs.Lists.{Pairwise, next, none, sortBy, sumOf}
+use Rattle.layout.specs.Merges.{rest}
 use Rattle.section.proofs.Lengths.{length-unique}
 use Rattle.section.specs.Sections.{lengthOf}
 use Rattle.section.specs.declared.Section.{Section}

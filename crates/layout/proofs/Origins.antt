@@ -10,17 +10,9 @@ use borrow.Author.Tests.{eq-eqb, ne-eqb}
 use Rattle.layout.proofs.CopiesFrom.{each-from, from-failed, from-passed}
 use Rattle.layout.proofs.Lists.{each-imp}
 use Rattle.layout.specs.Lists.{Each, done, more}
+use Rattle.layout.specs.Merges.{origin}
 use Rattle.layout.specs.Removing.{Copy, copiesFrom, copyRun}
 use Rattle.section.specs.Sections.{Apart}
-
--- the block of before the copies whose bytes stand in block x after them
-unfoldable pub origin : List Copy → ℕ → ℕ
-origin [] x = x
-origin (c ∷ l) x = cond (eqb (origin l x) (c .target)) (c .source) (origin l x)
-
-pub record InDisk (n : ℕ) (c : Copy) : Type 0 where
-  pub source : c .source < n
-  pub target : c .target < n
 
 pub origin-append : (a b : List Copy) (x : ℕ) → origin (a ++ b) x ≡ origin a (origin b x)
 unfolding origin

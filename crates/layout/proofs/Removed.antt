@@ -5,26 +5,26 @@ use Prim.Native.Nat.{_%_, _+_, _-_, _/_, _<_, _^_, _≤_, ℕ}
 use native.Mathlib.Omega.{arith}
 use lib.ListN.{length, length-map}
 use Rattle.layout.proofs.Allocating.{falling-thin, height-lt}
-use Rattle.layout.proofs.CarryBound.{bound-is-carries, digitSum}
-use Rattle.layout.proofs.Cover.{Covers}
+use Rattle.layout.proofs.CarryBound.{bound-is-carries}
 use Rattle.layout.proofs.Digits.{counts-are-digits}
-use Rattle.layout.proofs.FilesMoved.{Moved, moved-shapes, shape}
-use Rattle.layout.proofs.Finding.{Find, find-each, find-id, find-ids, find-length, find-shapes, find-sum}
+use Rattle.layout.proofs.FilesMoved.{moved-shapes}
+use Rattle.layout.proofs.Finding.{find-each, find-id, find-ids, find-length, find-shapes, find-sum}
 use Rattle.layout.proofs.Finding.{find-without}
 use Rattle.layout.proofs.Lists.{each-append, each-imp, each-insert, each-left, each-right, sum-append}
 use Rattle.layout.proofs.Lists.{sum-insert}
-use Rattle.layout.proofs.MergeAll.{MergedAll, bound, bound-cong, mergeAll-is, merged-blocks, merged-copies}
+use Rattle.layout.proofs.MergeAll.{bound-cong, mergeAll-is, merged-blocks, merged-copies}
 use Rattle.layout.proofs.MergeAll.{merged-files, merged-thin, merged-whole}
-use Rattle.layout.proofs.MergeKeeps.{Whole}
-use Rattle.layout.proofs.SoundSums.{RisingIds, ShapeSound, SoundSums, falling-of, free-is}
-use Rattle.layout.proofs.Splitting.{countOf}
-use Rattle.layout.proofs.Taking.{Rising, insert-rising}
-use Rattle.layout.proofs.Zipped.{Zipped}
-use Rattle.layout.specs.Carries.{carries}
+use Rattle.layout.proofs.SoundSums.{falling-of, free-is}
+use Rattle.layout.proofs.Taking.{insert-rising}
+use Rattle.layout.specs.Carries.{carries, digitSum, bound}
+use Rattle.layout.specs.Covering.{Covers, Rising, Whole, countOf}
 use Rattle.layout.specs.Layout.{File, Layout, OnDisk, allPieces, byFirst, fileBlocks, filePieces, freeBlocks}
 use Rattle.layout.specs.Layout.{holdsBlock, ofHeight}
-use Rattle.layout.specs.Lists.{Each, done, more, sumOf}
-use Rattle.layout.specs.Removing.{Merge, copiesOf, insertAll, layoutAfter, release, removal, withoutFile}
+use Rattle.layout.specs.Lists.{Each, done, more, sumOf, Zipped}
+use Rattle.layout.specs.Merges.{MergedAll, Moved}
+use Rattle.layout.specs.Removals.{Removes, Find}
+use Rattle.layout.specs.Removing.{copiesOf, insertAll, layoutAfter, release, removal, withoutFile}
+use Rattle.layout.specs.Sums.{RisingIds, ShapeSound, SoundSums, shape}
 use Rattle.section.specs.declared.Section.{Section}
 
 sum-insertAll : (w : Section → ℕ) (s free : List Section) → sumOf w (insertAll s free) ≡ sumOf w s + sumOf w free
@@ -42,14 +42,6 @@ rising-insertAll : (s : List Section) {free : List Section} → Rising free → 
 unfolding insertAll
 rising-insertAll [] r = r
 rising-insertAll (a ∷ s) r = insert-rising a (rising-insertAll s r)
-
--- what a removal of f leaves
-pub record Removes (K : ℕ) (l : Layout) (f : File) (r : List File) (ms : List Merge) : Type 0 where
-  pub steps : MergedAll (l .blocks) K (release f l) ms
-  pub sound : SoundSums K (layoutAfter (release f l) ms)
-  pub blocks : layoutAfter (release f l) ms .blocks ≡ l .blocks
-  pub limit : length (copiesOf ms) ≤ carries K (freeBlocks l) (fileBlocks f)
-  pub files : Zipped (Moved (copiesOf ms)) r (layoutAfter (release f l) ms .files)
 
 module _ (K i : ℕ) (l : Layout) (f : File) (r : List File) (g : SoundSums K l) (x : Find i (l .files) f r) where
   wo : withoutFile (f .id) (l .files) ≡ r

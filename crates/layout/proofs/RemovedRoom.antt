@@ -8,15 +8,17 @@ use lib.ListN.{length}
 use borrow.Author.Tests.{ne-eqb}
 use Rattle.section.specs.Sections.{lengthOf}
 use Rattle.section.specs.declared.Section.{Section}
-use Rattle.layout.proofs.FilesMoved.{Moved, Shape, moved-shapes, shape}
-use Rattle.layout.proofs.Finding.{Find, find-length, find-sum, here, there}
+use Rattle.layout.proofs.FilesMoved.{moved-shapes}
+use Rattle.layout.proofs.Finding.{find-length, find-sum}
 use Rattle.layout.proofs.Lists.{each-imp}
 use Rattle.layout.proofs.Removed.{removal-keeps}
-use Rattle.layout.proofs.SoundSums.{RisingIds, SoundSums, free-size, pieces-size}
-use Rattle.layout.proofs.Zipped.{Zipped, both, ends}
+use Rattle.layout.proofs.SoundSums.{free-size, pieces-size}
 use Rattle.layout.specs.Layout.{File, Layout, fileBlocks, findFile, freeBlocks, hasFile}
-use Rattle.layout.specs.Lists.{Each, more, next, sumOf}
+use Rattle.layout.specs.Lists.{Each, more, next, sumOf, Zipped, both, ends}
+use Rattle.layout.specs.Merges.{Moved}
+use Rattle.layout.specs.Removals.{Find, here, there}
 use Rattle.layout.specs.Removing.{Copy, layoutAfter, release, removal}
+use Rattle.layout.specs.Sums.{RisingIds, Shape, SoundSums, shape}
 
 -- ---- files that were moved
 

@@ -2,51 +2,16 @@
 -- Assumes nothing.
 use mathlib.Core.List.{List, [], _∷_, map}
 use mathlib.Core.Path.{_≡_, refl}
-use Prim.Native.Nat.{_+_, _-_, _<_, _^_, _≤_, ℕ}
+use Prim.Native.Nat.{_+_, _-_, _<_, ℕ}
 use native.Mathlib.Omega.{arith}
-use lib.ListN.{length}
-use Rattle.layout.proofs.Allocating.{Falling}
-use Rattle.layout.proofs.Cover.{Covers, covers-size}
-use Rattle.layout.proofs.FilesMoved.{Shape, shape}
+use Rattle.layout.proofs.Cover.{covers-size}
 use Rattle.layout.proofs.Lists.{each-left, each-right, sum-append}
-use Rattle.layout.proofs.Splitting.{AtMostOne}
-use Rattle.layout.proofs.Taking.{Rising}
-use Rattle.layout.specs.Layout.{File, Layout, OnDisk, allPieces, fileBlocks, filePieces, freeBlocks}
-use Rattle.layout.specs.Lists.{Each, Pairwise, done, more, next, none, sumOf}
-use Rattle.layout.specs.Sound.{greatestId}
-use Rattle.section.specs.Limits.{mostFiles}
+use Rattle.layout.specs.Covering.{Falling}
+use Rattle.layout.specs.Layout.{File, Layout, fileBlocks, filePieces, freeBlocks}
+use Rattle.layout.specs.Lists.{Each, done, more, next, none, sumOf}
+use Rattle.layout.specs.Sums.{FallingN, SumsOver}
 use Rattle.section.specs.Sections.{lengthOf}
 use Rattle.section.specs.declared.Section.{Section}
-
--- heights fall
-abbrev pub FallingN : List ℕ → Type 0
-FallingN l = Pairwise (λ (a b : ℕ). b < a) l
-
-pub record ShapeSound (s : Shape) : Type 0 where
-  pub low : 1 ≤ s .id
-  pub high : s .id ≤ greatestId
-  pub falling : FallingN (s .heights)
-  pub some : 1 ≤ length (s .heights)
-
-abbrev pub RisingIds : List Shape → Type 0
-RisingIds l = Pairwise (λ (a b : Shape). a .id < b .id) l
-
--- T: what is asked of the free lengths
-pub record SumsOver (T : List Section → Type 0) (K : ℕ) (l : Layout) : Type 0 where
-  pub some : 1 ≤ l .blocks
-  pub top : l .blocks < 2 ^ K
-  pub cap : l .blocks ≤ 2 ^ (K - 1)
-  pub disk : Each (OnDisk (l .blocks)) (allPieces l)
-  pub covers : Covers (l .blocks) (allPieces l)
-  pub rising : Rising (l .free)
-  pub thin : T (l .free)
-  pub shapes : Each ShapeSound (map shape (l .files))
-  pub ids : RisingIds (map shape (l .files))
-  pub few : length (l .files) ≤ mostFiles
-
--- sound: no free length repeats
-abbrev pub SoundSums : ℕ → Layout → Type 0
-SoundSums K l = SumsOver AtMostOne K l
 
 -- what holds of all pieces of files holds of the pieces of each
 pub each-files {κ} : {P : Section → Type κ} (fs : List File) → Each P (filePieces fs)

@@ -8,20 +8,20 @@ use native.Mathlib.Omega.{arith}
 use lib.Count.{ones, ones-le}
 use lib.ListN.{length}
 use lib.Pow.{pow-lt, pow-pos}
-use Rattle.layout.proofs.Allocating.{Falling, height-lt}
+use Rattle.layout.proofs.Allocating.{height-lt}
 use Rattle.layout.proofs.Cover.{disjoint-covers}
-use Rattle.layout.proofs.FilesMoved.{shape}
 use Rattle.layout.proofs.Lists.{each-and, each-imp, each-unmap, pairwise-imp, pairwise-map, pairwise-unmap}
 use Rattle.layout.proofs.Lists.{sum-append, sum-ge-all}
 use Rattle.layout.proofs.Ones.{at-most-one-distinct, at-most-one-ones, distinct-at-most-one, falling-ones}
 use Rattle.layout.proofs.Ranges.{inRange-apart, inRange-inside, inRange-le-one}
-use Rattle.layout.proofs.SoundSums.{ShapeSound, SoundSums, falling-heights, falling-of, free-is, free-size}
+use Rattle.layout.proofs.SoundSums.{falling-heights, falling-of, free-is, free-size}
 use Rattle.layout.proofs.SoundSums.{pieces-size}
-use Rattle.layout.proofs.Taking.{Rising}
+use Rattle.layout.specs.Covering.{Falling, Rising}
 use Rattle.layout.specs.Layout.{File, Layout, allPieces, blockCount, fileBlocks, filePieces, freeBlocks}
 use Rattle.layout.specs.Layout.{holdsBlock}
 use Rattle.layout.specs.Lists.{Each, Pairwise, done, more, next, none, sumOf}
 use Rattle.layout.specs.Sound.{Sound, greatestId}
+use Rattle.layout.specs.Sums.{ShapeSound, SoundSums, shape}
 use Rattle.section.proofs.Lengths.{pow-lt-inv}
 use Rattle.section.specs.Sections.{Apart, lengthOf}
 use Rattle.section.specs.declared.Section.{Section}

@@ -10,17 +10,17 @@ use borrow.Author.Tests.{eq-eqb, eqb-false, eqb-true, ne-eqb}
 use Rattle.layout.proofs.Digits.{val-lt, val-size}
 use Rattle.layout.proofs.Lists.{each-and, each-imp, each-insert, sum-insert}
 use Rattle.layout.proofs.Ranges.{inRange-halves, within}
-use Rattle.layout.proofs.Taking.{Rising, Takes, TakesOf, insert-rising, nothing-height, takeFirst-is}
+use Rattle.layout.proofs.Taking.{TakesOf, insert-rising, nothing-height, takeFirst-is}
 use Rattle.layout.proofs.Taking.{takes-each, takes-height, takes-rising, takes-sum}
 use Rattle.layout.specs.Adding.{Taken, nothing, orElse, splitAt, takeFirst, takePiece, taken}
+use Rattle.layout.specs.Allocations.{Stock}
+use Rattle.layout.specs.Choices.{Takes}
+use Rattle.layout.specs.Covering.{AtMostOne, countOf}
 use Rattle.layout.specs.Layout.{OnDisk, byFirst, hasHeight, holdsBlock, inRange, ofHeight}
 use Rattle.layout.specs.Lists.{Each, done, indicator, insertBy, more, sumOf}
 use Rattle.section.proofs.Multiples.{aligned-lower, multiple-sum}
 use Rattle.section.specs.Sections.{lengthOf, section}
 use Rattle.section.specs.declared.Section.{Section}
-
-abbrev pub countOf : ℕ → List Section → ℕ
-countOf h l = sumOf (ofHeight h) l
 
 pub ofHeight-same : (h : ℕ) (s : Section) → s .height .value ≡ h → ofHeight h s ≡ 1
 unfolding ofHeight
@@ -33,15 +33,6 @@ ofHeight-other h s e = ap indicator (ne-eqb (s .height .value) h e)
 pub count-none : (h : ℕ) {l : List Section} → Each (λ (s : Section). s .height .value ≡ h → ⊥) l → countOf h l ≡ 0
 count-none h done = refl
 count-none h (more {a = a} p e) = omega (arith, ofHeight-other h a p, count-none h e)
-
-abbrev pub AtMostOne : List Section → Type 0
-AtMostOne l = (h : ℕ) → countOf h l ≤ 1
-
--- the free sections of a disk of c blocks, or the ones left while a file is placed
-pub record Stock (c : ℕ) (l : List Section) : Type 0 where
-  pub disk : Each (OnDisk c) l
-  pub rising : Rising l
-  pub thin : AtMostOne l
 
 pub record TakesPiece (c h : ℕ) (free : List Section) (s : Section) (r : List Section) : Type 0 where
   pub height : s .height .value ≡ h

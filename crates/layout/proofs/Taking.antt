@@ -8,14 +8,11 @@ use native.Mathlib.Omega.{arith}
 use borrow.Author.Tests.{eqb-false, eqb-true, leb-false, leb-true}
 use Rattle.layout.proofs.Lists.{each-imp, insert-sorted, sort-sorted}
 use Rattle.layout.specs.Adding.{Taken, keeping, nothing, takeFirst, taken}
+use Rattle.layout.specs.Choices.{Takes, here, there}
+use Rattle.layout.specs.Covering.{Rising}
 use Rattle.layout.specs.Layout.{byFirst, hasHeight}
-use Rattle.layout.specs.Lists.{Each, Pairwise, done, insertBy, more, next, sortBy, sumOf}
+use Rattle.layout.specs.Lists.{Each, done, insertBy, more, next, sortBy, sumOf}
 use Rattle.section.specs.declared.Section.{Section}
-
--- s is the first in l that passes the test, and r the others
-pub data Takes (p : Section → Bool) : List Section → Section → List Section → Type 0 where
-  here : {a : Section} {l : List Section} → p a ≡ true → Takes p (a ∷ l) a l
-  there : {a s : Section} {l r : List Section} → p a ≡ false → Takes p l s r → Takes p (a ∷ l) s (a ∷ r)
 
 abbrev pub TakesOf : (Section → Bool) → List Section → Taken → Type 0
 TakesOf p l (taken s r) = Takes p l s r
@@ -77,10 +74,6 @@ takes-height {h} {s = s} x = eqb-true (s .height .value) h (takes-test x)
 pub nothing-height : {h : ℕ} {l : List Section} → Each (λ (a : Section). hasHeight h a ≡ false) l
     → Each (λ (a : Section). a .height .value ≡ h → ⊥) l
 nothing-height {h} e = each-imp (λ a q. eqb-false (a .height .value) h q) e
-
--- the sections of a list stand by rising first block
-abbrev pub Rising : List Section → Type 0
-Rising l = Pairwise (λ (a b : Section). a .first ≤ b .first) l
 
 pub takes-rising : {p : Section → Bool} {l r : List Section} {s : Section} → Takes p l s r → Rising l → Rising r
 takes-rising (here e) (next q qs) = qs

@@ -1,11 +1,7 @@
 -- Two lists that agree place by place, and maps of maps. Assumes nothing.
 use mathlib.Core.List.{List, [], _++_, _∷_, map}
 use mathlib.Core.Path.{_≡_, ap, ap₂, refl}
-
--- two lists agree place by place
-pub data Zipped {A B : Type 0} (R : A → B → Type 0) : List A → List B → Type 0 where
-  ends : Zipped R [] []
-  both : {a : A} {b : B} {l : List A} {m : List B} → R a b → Zipped R l m → Zipped R (a ∷ l) (b ∷ m)
+use Rattle.layout.specs.Lists.{Zipped, both, ends}
 
 pub zipped-append : {A B : Type 0} {R : A → B → Type 0} {l l′ : List A} {m m′ : List B} → Zipped R l m
     → Zipped R l′ m′ → Zipped R (l ++ l′) (m ++ m′)

@@ -6,3 +6,10 @@ pub mod Removing
 pub mod Carries
 pub mod Sound
 pub mod Loop
+pub mod Covering
+pub mod Allocations
+pub mod Choices
+pub mod Merges
+pub mod Sums
+pub mod Removals
+pub mod Cases

@@ -1,4 +1,5 @@
--- Lists: sums over a list, insertion and sorting, properties of every element and of every two. Definitions only.
+-- Lists: sums over a list, insertion and sorting, properties of every element and of every two, two lists place by
+-- place. Definitions only.
 use Prim.Native.Nat.{ℕ, _+_}
 use mathlib.Core.Bool.{Bool, true, false}
 use mathlib.Core.List.{List, [], _∷_}
@@ -31,3 +32,8 @@ pub data Each {ℓ κ} {A : Type ℓ} (P : A → Type κ) : List A → Type (ℓ
 pub data Pairwise {ℓ κ} {A : Type ℓ} (R : A → A → Type κ) : List A → Type (ℓ ⊔ κ) where
   none : Pairwise R []
   next : {a : A} {l : List A} → Each (R a) l → Pairwise R l → Pairwise R (a ∷ l)
+
+-- two lists agree place by place
+pub data Zipped {A B : Type 0} (R : A → B → Type 0) : List A → List B → Type 0 where
+  ends : Zipped R [] []
+  both : {a : A} {b : B} {l : List A} {m : List B} → R a b → Zipped R l m → Zipped R (a ∷ l) (b ∷ m)

@@ -5,9 +5,9 @@ use Prim.Native.Nat.{_≤_}
 use native.Mathlib.Omega.{arith}
 use lib.ListN.{take}
 use Rattle.looking.specs.Opened.{Opened}
-use Rattle.layout.proofs.SoundSums.{SoundSums}
 use Rattle.layout.proofs.Soundness.{sound-sums}
 use Rattle.layout.specs.Layout.{blockCount, freeBlocks}
+use Rattle.layout.specs.Sums.{SoundSums}
 use Rattle.section.specs.Limits.{greatestDisk, heightCount}
 use Rattle.table.proofs.SoundStock.{sound-stocked}
 use Rattle.free_pieces.specs.Free.{freeOf}

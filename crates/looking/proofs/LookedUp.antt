@@ -7,10 +7,11 @@ use lib.ListN.{length}
 use Rattle.blocks.proofs.DiskFits.{entry-on-disk}
 use Rattle.blocks.specs.DiskCode.{EntryFits}
 use Rattle.looking.specs.Opened.{Opened}
-use Rattle.layout.proofs.Finding.{Find, find-each, found-find, here, there}
+use Rattle.layout.proofs.Finding.{find-each, found-find}
 use Rattle.layout.proofs.Lists.{each-left}
 use Rattle.layout.specs.Layout.{File, OnDisk, blockCount, fileBlocks, filePieces, findFile, found, missing}
 use Rattle.layout.specs.Lists.{Each, more}
+use Rattle.layout.specs.Removals.{Find, here, there}
 use Rattle.section.specs.Limits.{blockSize, greatestDisk}
 use Rattle.piece_lists.proofs.EachItem.{each-get, each-taken}
 use Rattle.table.proofs.Released.{find-at, find-none}

@@ -12,14 +12,14 @@ use Rattle.catalogue.proofs.Roomy.{Roomy}
 use Rattle.catalogue.specs.Encoding.{encode}
 use Rattle.catalogue.specs.declared.Version.{Version}
 use Rattle.layout.proofs.Added.{added-once, added-size, added-sound, allocate-fits}
-use Rattle.layout.proofs.Allocating.{Allocates}
 use Rattle.layout.proofs.Lists.{each-head, each-tail}
 use Rattle.layout.proofs.Occurs.{blocks-within, length-blocks, occurs-blocks}
-use Rattle.layout.proofs.SoundSums.{SoundSums}
 use Rattle.layout.specs.Adding.{allocate, allocated, withFile}
+use Rattle.layout.specs.Allocations.{Allocates}
 use Rattle.layout.specs.Layout.{Layout, blocksOf, filePieces, freeBlocks, hasFile, holdsBlock}
 use Rattle.layout.specs.Lists.{Each, done, more, sumOf}
 use Rattle.layout.specs.Sound.{Sound, greatestId}
+use Rattle.layout.specs.Sums.{SoundSums}
 use Rattle.manager.proofs.Contents.{content-pages, cut-paged, paged-length}
 use Rattle.manager.proofs.Judging.{allowed-none, answered-allowed, none-applies}
 use Rattle.manager.proofs.Lines.{write-line}

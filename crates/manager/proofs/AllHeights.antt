@@ -7,10 +7,10 @@ use Rattle.catalogue.specs.Version.{greatestBlocks}
 use Rattle.catalogue.specs.declared.Version.{Version}
 use Rattle.layout.proofs.Fresh.{fresh-sound}
 use Rattle.layout.proofs.SoundHeights.{sound-higher, sound-lower}
-use Rattle.layout.proofs.SoundSums.{SoundSums}
 use Rattle.layout.proofs.Soundness.{sound-sums, sums-sound}
 use Rattle.layout.specs.Layout.{Layout, freshLayout}
 use Rattle.layout.specs.Sound.{Sound}
+use Rattle.layout.specs.Sums.{SoundSums}
 use Rattle.section.specs.Limits.{greatestDisk, heightCount}
 
 module _ (v : Version) (room : Roomy v) (l : Layout) where

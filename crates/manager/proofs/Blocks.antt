@@ -9,8 +9,8 @@ use lib.Dec.{eqb}
 use lib.ListN.{drop, length, length-append, length-drop, length-take, take, take-append-drop}
 use lib.Seq.{drop-append-le, drop-at, drop-drop, take-append-le, take-at}
 use borrow.Author.Tests.{eqb-false, eqb-true}
-use Rattle.layout.proofs.Origins.{InDisk, origin}
 use Rattle.layout.specs.Lists.{Each, done, more}
+use Rattle.layout.specs.Merges.{InDisk, origin}
 use Rattle.layout.specs.Removing.{Copy}
 use Rattle.manager.specs.Disk.{block, runCopies, storeBlock}
 use Rattle.section.specs.Limits.{blockSize}

@@ -9,8 +9,8 @@ use lib.Dec.{eqb, leb}
 use lib.ListN.{drop, length, length-append, length-drop, length-take, take, take-append-drop}
 use lib.Seq.{drop-drop}
 use borrow.Author.Tests.{eq-eqb, eqb-false, eqb-true, le-leb, leb-true, ne-eqb}
-use Rattle.layout.proofs.MergeAll.{rest}
 use Rattle.layout.specs.Lists.{done, more}
+use Rattle.layout.specs.Merges.{rest}
 use Rattle.manager.proofs.Writing.{Paged}
 use Rattle.manager.specs.Book.{bookPages, bytesOf, contentPages, countFrom, isWhole, pageBytes}
 use Rattle.manager.specs.Conditions.{unpaged}

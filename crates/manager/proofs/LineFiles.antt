@@ -6,7 +6,7 @@ use Prim.Native.Nat.{_%_, _-_, _/_, _<_, _^_, ℕ}
 use native.Mathlib.Omega.{arith}
 use lib.ListN.{length}
 use Rattle.catalogue.specs.declared.Version.{Version}
-use Rattle.layout.proofs.Finding.{Find, found-find, here, there}
+use Rattle.layout.proofs.Finding.{found-find}
 use Rattle.layout.specs.Layout.{File, Found, OnePiecePerOne, allPieces, fileBlocks, findFile, found, holdsBlock}
 use Rattle.layout.specs.Layout.{missing, ofHeight}
 use Rattle.layout.specs.Lists.{Each, more, sumOf}
@@ -15,6 +15,7 @@ use Rattle.manager.specs.Book.{Book, Line, line, lineWith, pagesInLines}
 use Rattle.manager.specs.Disk.{pagesOn}
 use Rattle.manager.specs.Table.{CatalogueOf}
 use Rattle.manager.specs.WholeList.{Afterwards, lineOn}
+use Rattle.layout.specs.Removals.{Find, here, there}
 
 -- what every file has, the file of an id has
 found-has : {P : File → Type 0} {i : ℕ} {l r : List File} {f : File} → Find i l f r → Each P l → P f

@@ -7,14 +7,13 @@ use Prim.Native.Nat.{_*_, _+_, ℕ}
 use lib.Dec.{eqb, leb}
 use lib.ListN.{length, length-map}
 use borrow.Author.Tests.{eq-eqb, ne-eqb}
-use Rattle.layout.proofs.FilesMoved.{Moved}
-use Rattle.layout.proofs.Finding.{Find, here, there}
 use Rattle.layout.proofs.Occurs.{length-blocks}
-use Rattle.layout.proofs.Origins.{InDisk, origin}
-use Rattle.layout.proofs.Zipped.{Zipped, both, ends, map-map}
+use Rattle.layout.proofs.Zipped.{map-map}
 use Rattle.layout.specs.Layout.{File, Found, blockCount, blocksOf, byId, fileBlocks, findFile, found, hasFile}
 use Rattle.layout.specs.Layout.{isFound, missing}
-use Rattle.layout.specs.Lists.{Each, insertBy, sumOf}
+use Rattle.layout.specs.Lists.{Each, insertBy, sumOf, Zipped, both, ends}
+use Rattle.layout.specs.Merges.{InDisk, Moved, origin}
+use Rattle.layout.specs.Removals.{Find, here, there}
 use Rattle.layout.specs.Removing.{Copy}
 use Rattle.manager.proofs.Blocks.{copies-block}
 use Rattle.manager.specs.Book.{Line, LineFound, line, lineWith, noLine, noted, pagesInLines, strikeLine}

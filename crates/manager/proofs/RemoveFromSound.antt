@@ -10,15 +10,17 @@ use borrow.Author.Tests.{ne-eqb}
 use Rattle.catalogue.proofs.Roomy.{Roomy}
 use Rattle.catalogue.specs.Encoding.{encode}
 use Rattle.catalogue.specs.declared.Version.{Version}
-use Rattle.layout.proofs.Finding.{Find, find-id, found-find}
+use Rattle.layout.proofs.Finding.{find-id, found-find}
 use Rattle.layout.proofs.MergeAll.{merged-reach}
-use Rattle.layout.proofs.Origins.{InDisk, origin-off}
-use Rattle.layout.proofs.Removed.{Removes, removal-keeps}
-use Rattle.layout.proofs.SoundSums.{SoundSums}
+use Rattle.layout.proofs.Origins.{origin-off}
+use Rattle.layout.proofs.Removed.{removal-keeps}
 use Rattle.layout.specs.Layout.{File, Layout, findFile, found, hasFile, isFound}
 use Rattle.layout.specs.Lists.{Each, done, more}
+use Rattle.layout.specs.Merges.{InDisk}
+use Rattle.layout.specs.Removals.{Find, Removes}
 use Rattle.layout.specs.Removing.{copiesOf, layoutAfter, release, removal}
 use Rattle.layout.specs.Sound.{Sound}
+use Rattle.layout.specs.Sums.{SoundSums}
 use Rattle.manager.proofs.Blocks.{copies-block, copies-length}
 use Rattle.manager.proofs.Judging.{none-applies}
 use Rattle.manager.proofs.Lines.{find-strike, moved-lines}

@@ -15,9 +15,10 @@ use Rattle.catalogue.proofs.Versions.{encoded-once}
 use Rattle.catalogue.specs.Reading.{Reading, readCatalogue, sound, unsound}
 use Rattle.catalogue.specs.Version.{versionOf}
 use Rattle.catalogue.specs.declared.Version.{Version}
-use Rattle.layout.proofs.Finding.{Find, find, here, missing-none, there}
+use Rattle.layout.proofs.Finding.{find, missing-none}
 use Rattle.layout.specs.Layout.{File, Found, Layout, fileBlocks, findFile, found, freeBlocks, hasFile, missing}
 use Rattle.layout.specs.Lists.{Each, more}
+use Rattle.layout.specs.Removals.{Find, here, there}
 use Rattle.manager.proofs.Catalogues.{decides-length, read-catalogue, unread-catalogue}
 use Rattle.manager.proofs.ConditionLists.{Judges, belowAll, judges-end, judges-row}
 use Rattle.manager.proofs.Deciding.{Decides, decides-at-most, decides-below, decides-equal, decides-false}

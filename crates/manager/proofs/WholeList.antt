@@ -14,13 +14,13 @@ use Rattle.catalogue.specs.Version.{OneOf, greatestBlocks, versionFor, versions
 use Rattle.catalogue.specs.declared.Version.{Version}
 use Rattle.layout.proofs.Finding.{found-find}
 use Rattle.layout.proofs.Removed.{removal-keeps}
-use Rattle.layout.proofs.SoundSums.{SoundSums}
 use Rattle.layout.proofs.Swaps.{same}
 use Rattle.layout.specs.Carries.{carries}
 use Rattle.layout.specs.Layout.{File, Found, Layout, fileBlocks, findFile, found, freeBlocks, freshLayout, isFound}
 use Rattle.layout.specs.Layout.{missing}
 use Rattle.layout.specs.Lists.{done, more}
 use Rattle.layout.specs.Removing.{copiesOf, removal}
+use Rattle.layout.specs.Sums.{SoundSums}
 use Rattle.manager.proofs.Agreement.{call-agrees}
 use Rattle.manager.proofs.Contents.{length-paged}
 use Rattle.manager.proofs.Judging.{none-applies}

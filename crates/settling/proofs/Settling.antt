@@ -10,9 +10,9 @@ use Rattle.blocks.specs.DiskCode.{Copied, MergeFits}
 use Rattle.blocks.proofs.DiskCopies.{run-append}
 use Rattle.blocks.proofs.DiskFits.{merge-on-disk}
 use Rattle.free_pieces.specs.Gaps.{PairFits, pairCopies}
+use Rattle.layout.specs.Covering.{Whole}
 use Rattle.settling.specs.Settling.{CanSettle, Settles, mergesOf}
 use Rattle.layout.proofs.LoopTurns.{layout-after-append}
-use Rattle.layout.proofs.MergeKeeps.{Whole}
 use Rattle.layout.proofs.Swaps.{same}
 use Rattle.layout.specs.Layout.{Layout}
 use Rattle.layout.specs.Lists.{none}

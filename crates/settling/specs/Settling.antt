@@ -3,9 +3,9 @@ use mathlib.Core.Path.{_≡_}
 use mathlib.Core.List.{List}
 use Prim.Native.Nat.{ℕ, _*_, _≤_}
 use lib.ListN.{length}
+use Rattle.layout.specs.Covering.{Whole}
 use Rattle.section.specs.Limits.{blockSize, greatestDisk, heightCount}
 use Rattle.layout.specs.Removing.{Merge, copiesOf, layoutAfter, mergeAll}
-use Rattle.layout.proofs.MergeKeeps.{Whole}
 use Rattle.manager.specs.Disk.{runCopies}
 use Rattle.table.specs.declared.Table.{Table}
 use Rattle.free_pieces.specs.Free.{freeOf}

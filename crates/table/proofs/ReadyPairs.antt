@@ -8,13 +8,14 @@ use lib.ListN.{take}
 use lib.Pow.{pow-pos}
 use Rattle.layout.proofs.Allocating.{height-lt}
 use Rattle.layout.proofs.Lists.{each-imp, each-left, each-right, each-unmap}
-use Rattle.layout.proofs.MergeKeeps.{MergeKeeps, Whole}
-use Rattle.layout.proofs.MergePairs.{Mergeable}
 use Rattle.layout.proofs.MergeParts.{merge-parts}
 use Rattle.layout.proofs.MergeStep.{merge-keeps}
 use Rattle.layout.proofs.MovedPieces.{section-eta}
+use Rattle.layout.specs.Choices.{Mergeable}
+use Rattle.layout.specs.Covering.{Whole}
 use Rattle.layout.specs.Layout.{File, InOrder, Layout, OnDisk, filePieces}
 use Rattle.layout.specs.Lists.{Each, done, more}
+use Rattle.layout.specs.Merges.{MergeKeeps}
 use Rattle.layout.specs.Removing.{merge, mergeCopies}
 use Rattle.section.specs.Limits.{greatestDisk, heightCount}
 use Rattle.section.specs.Sections.{Addressable, buddyOf}

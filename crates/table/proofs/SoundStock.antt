@@ -4,10 +4,10 @@ use Prim.Native.Nat.{_≤_}
 use native.Mathlib.Omega.{arith}
 use lib.ListN.{length}
 use Rattle.layout.proofs.Lists.{each-imp, each-right}
-use Rattle.layout.proofs.SoundSums.{SoundSums}
 use Rattle.layout.proofs.Soundness.{sound-sums}
 use Rattle.layout.specs.Layout.{OnDisk, filePieces}
 use Rattle.layout.specs.Sound.{Sound}
+use Rattle.layout.specs.Sums.{SoundSums}
 use Rattle.section.specs.Limits.{greatestDisk, heightCount}
 use Rattle.section.specs.declared.Section.{Section}
 use Rattle.free_pieces.specs.Free.{freeOf, freePlaces}

@@ -3,11 +3,11 @@ use mathlib.Core.Path.{_≡_, subst, sym}
 use Prim.Native.Nat.{_<_, _≤_, ℕ}
 use native.Mathlib.Omega.{arith}
 use lib.ListN.{length}
+use Rattle.layout.specs.Covering.{Whole}
+use Rattle.layout.specs.Sums.{SoundSums}
 use Rattle.section.specs.Limits.{heightCount}
 use Rattle.layout.proofs.Finding.{found-find}
-use Rattle.layout.proofs.MergeKeeps.{Whole}
 use Rattle.layout.proofs.Removed.{release-whole}
-use Rattle.layout.proofs.SoundSums.{SoundSums}
 use Rattle.layout.proofs.Soundness.{free-few, sums-sound}
 use Rattle.table.proofs.ReadyPairs.{Fits}
 use Rattle.table.proofs.Released.{find-at}

@@ -8,8 +8,8 @@ use Prim.Native.Nat.{_+_, _-_, _≤_}
 use native.Mathlib.Omega.{arith}
 use lib.ListN.{length, take}
 use borrow.Author.Needs.{needs}
+use Rattle.layout.specs.Covering.{countOf}
 use Rattle.section.specs.Limits.{heightCount}
-use Rattle.layout.proofs.Splitting.{countOf}
 use Rattle.section.specs.Sections.{section}
 use Rattle.piece.specs.Packed.{seen}
 use Rattle.piece.proofs.Seen.{seen-get, seen-length}

@@ -1,0 +1,31 @@
+-- What adding takes from the free sections, and what it leaves of them. Definitions only.
+use mathlib.Core.List.{List}
+use mathlib.Core.Path.{_≡_}
+use Prim.Native.Nat.{ℕ, _%_, _+_, _<_, _^_}
+use Rattle.layout.specs.Adding.{Allocated, allocated, tooFew}
+use Rattle.layout.specs.Covering.{AtMostOne, Rising, Falling}
+use Rattle.layout.specs.Layout.{OnDisk, holdsBlock}
+use Rattle.layout.specs.Lists.{Each, sumOf}
+use Rattle.section.specs.Sections.{lengthOf}
+use Rattle.section.specs.declared.Section.{Section}
+
+-- the free sections of a disk of c blocks, or the ones left while a file is placed
+pub record Stock (c : ℕ) (l : List Section) : Type 0 where
+  pub disk : Each (OnDisk c) l
+  pub rising : Rising l
+  pub thin : AtMostOne l
+
+-- the pieces s are taken for the digits of n below height h, and r is left of free
+pub record Allocates (c h n : ℕ) (free s r : List Section) : Type 0 where
+  pub on : Each (OnDisk c) s
+  pub falling : Falling s
+  pub lower : Each (λ (a : Section). a .height .value < h) s
+  pub stock : Stock c r
+  pub held : (x : ℕ) → sumOf (holdsBlock x) free ≡ sumOf (holdsBlock x) s + sumOf (holdsBlock x) r
+  pub size : sumOf lengthOf free ≡ sumOf lengthOf s + sumOf lengthOf r
+  pub blocks : sumOf lengthOf s ≡ n % 2 ^ h
+
+-- what is allocated, or too few free blocks
+abbrev pub AllocatesOf : ℕ → ℕ → ℕ → List Section → Allocated → Type 0
+AllocatesOf c h n free (allocated s r) = Allocates c h n free s r
+AllocatesOf c h n free tooFew = sumOf lengthOf free < n % 2 ^ h

@@ -6,9 +6,9 @@ use Rattle.blocks.specs.DiskCode.{EntryFits, MergeFits}
 use Rattle.layout.proofs.Lists.{each-imp}
 use Rattle.layout.specs.Layout.{OnDisk}
 use Rattle.layout.specs.Lists.{Each}
-use Rattle.section.proofs.Buddies.{upper}
 use Rattle.section.proofs.Lengths.{pow-lt-inv}
 use Rattle.section.specs.Limits.{blockSize, greatestDisk, greatestHeight, heightCount}
+use Rattle.section.specs.Nesting.{upper}
 use Rattle.section.specs.Sections.{buddyOf, endOf}
 use Rattle.section.specs.declared.Section.{Section}
 use Rattle.piece_lists.specs.Few.{piecePlaces}

@@ -20,9 +20,9 @@ use Rattle.calls.specs.Changing.{Makes, addOn}
 use Rattle.looking.specs.declared.Answer.{Answer}
 use Rattle.catalogue.specs.Encoding.{encode}
 use Rattle.catalogue.specs.declared.Version.{Version}
-use Rattle.layout.proofs.Swaps.{right}
 use Rattle.layout.specs.Adding.{allocate, allocated}
 use Rattle.layout.specs.Layout.{Layout, freeBlocks, hasFile, isFound}
+use Rattle.layout.specs.Moves.{right}
 use Rattle.layout.specs.Sound.{greatestId}
 use Rattle.manager.specs.Conditions.{Outcome, answered, firstRefusal, refusal, refused, unlessRefused, unpaged}
 use Rattle.manager.specs.Conditions.{wrongDisk}

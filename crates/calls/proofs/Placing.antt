@@ -10,9 +10,10 @@ use Rattle.blocks.specs.DiskCode.{EntryFits, WriteFits}
 use Rattle.looking.proofs.FreeSum.{opened-sums}
 use Rattle.calls.specs.Adding.{CanAdd, Places}
 use Rattle.layout.proofs.Added.{added-size, added-sound, allocate-fits}
+use Rattle.layout.proofs.Allocating.{AllocatesOf}
 use Rattle.layout.proofs.Soundness.{sums-sound}
 use Rattle.layout.specs.Adding.{Allocated, allocate, allocated, tooFew, withFile}
-use Rattle.layout.specs.Allocations.{Allocates, AllocatesOf}
+use Rattle.layout.specs.Allocations.{Allocates}
 use Rattle.layout.specs.Layout.{blockCount, blocksOf}
 use Rattle.layout.specs.Sound.{Sound}
 use Rattle.layout.specs.Sums.{SoundSums}

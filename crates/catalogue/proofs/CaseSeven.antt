@@ -1,20 +1,11 @@
 -- The bytes of case 7 of document 01, literally, in both versions. Assumes nothing.
 use mathlib.Core.List.{[], _∷_}
 use mathlib.Core.Path.{_≡_, refl}
+use Rattle.catalogue.specs.Cases.{caseSeven}
 use Rattle.catalogue.specs.Encoding.{bigEndian, entriesBytes, entryBytes, headerBytes, pairBytes, pairsBytes}
 use Rattle.catalogue.specs.Encoding.{usedBytes}
 use Rattle.catalogue.specs.Version.{version1, version2}
-use Rattle.layout.specs.Layout.{Layout}
 use Rattle.layout.specs.Lists.{insertBy, sortBy}
-use Rattle.section.specs.Sections.{section}
-
--- id 2 at (4,2), id 9 at (7,1), free (0,4) (6,1) (8,8)
-abbrev pub caseSeven : Layout
-caseSeven = record {
-  blocks = 16;
-  files = (record { id = 2; pieces = section 4 1 ∷ [] }) ∷ (record { id = 9; pieces = section 7 0 ∷ [] }) ∷ [];
-  free = section 0 2 ∷ section 6 0 ∷ section 8 3 ∷ [];
-}
 
 pub case-seven-bytes : usedBytes version1 caseSeven
     ≡ 0 ∷ 1 ∷ 0 ∷ 16 ∷ 0 ∷ 2

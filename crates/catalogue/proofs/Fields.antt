@@ -7,12 +7,9 @@ use native.Mathlib.Nat.{pow-suc, pow-zero}
 use native.Mathlib.Omega.{arith}
 use lib.Arith.{mod-mul}
 use lib.ListN.{length}
-use Rattle.catalogue.specs.Encoding.{bigEndian, byteValues}
+use Rattle.catalogue.specs.Encoding.{bigEndian, byteValues, Bytes}
 use Rattle.catalogue.specs.Reading.{got, readField, readFrom}
-use Rattle.layout.specs.Lists.{Each, done, more}
-
-abbrev pub Bytes : List ℕ → Type 0
-Bytes bs = Each (λ b. b < byteValues) bs
+use Rattle.layout.specs.Lists.{done, more}
 
 power-pos : (w : ℕ) → 0 < byteValues ^ w
 power-pos w = one-le-pow w byteValues (omega arith)

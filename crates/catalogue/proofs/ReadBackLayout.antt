@@ -12,13 +12,14 @@ use borrow.Author.Tests.{eq-eqb, le-leb}
 use Rattle.catalogue.proofs.Fields.{field-back}
 use Rattle.catalogue.proofs.Grouping.{used-fields}
 use Rattle.catalogue.proofs.ReadBack.{FileFits, Fits, entries-back, pairs-back}
-use Rattle.catalogue.proofs.Roomy.{Roomy, served-blocks}
+use Rattle.catalogue.proofs.Roomy.{served-blocks}
 use Rattle.catalogue.proofs.Tests.{and-intro, sound-test}
 use Rattle.catalogue.specs.Encoding.{bigEndian, byteValues, encode, entriesBytes, pairsBytes}
 use Rattle.catalogue.specs.Version.{shortField}
 use Rattle.catalogue.specs.Encoding.{usedBytes}
 use Rattle.catalogue.specs.Reading.{Header, Read, Reading, bad, every, got, judged, readCatalogue, readHeader}
 use Rattle.catalogue.specs.Reading.{readLayout, sound, unsound}
+use Rattle.catalogue.specs.Roomy.{Roomy}
 use Rattle.catalogue.specs.declared.Version.{Version}
 use Rattle.layout.proofs.Cover.{disjoint-le}
 use Rattle.layout.proofs.Lists.{each-and, each-imp, each-left, each-right, pairwise-imp, sum-append}

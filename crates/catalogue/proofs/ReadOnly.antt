@@ -8,18 +8,18 @@ use lib.Count.{ones}
 use lib.Dec.{eqb, ltb}
 use lib.ListN.{length}
 use borrow.Author.Tests.{eqb-true, ltb-true}
-use Rattle.catalogue.proofs.Fields.{Bytes, field-inv}
+use Rattle.catalogue.proofs.Fields.{field-inv}
 use Rattle.catalogue.proofs.Grouping.{entries-cons, entry-fields, pairs-cons}
 use Rattle.catalogue.proofs.Sorting.{firsts-back}
 use Rattle.catalogue.proofs.Tests.{pairwise-pairs}
-use Rattle.catalogue.specs.Encoding.{bigEndian, entriesBytes, entryBytes, pairsBytes}
+use Rattle.catalogue.specs.Encoding.{bigEndian, entriesBytes, entryBytes, pairsBytes, Bytes}
 use Rattle.catalogue.specs.Version.{shortField}
 use Rattle.catalogue.specs.Reading.{Read, bad, fileRead, got, pairwise, readEntries, readEntry, readField}
 use Rattle.catalogue.specs.Reading.{readPair, readPairs, sectionRead, then}
 use Rattle.layout.proofs.Lists.{pairwise-imp, sum-sort}
-use Rattle.layout.proofs.Swaps.{same}
 use Rattle.layout.specs.Layout.{File, blockCount, byLength}
 use Rattle.layout.specs.Lists.{sortBy}
+use Rattle.layout.specs.Moves.{same}
 use Rattle.section.proofs.Lengths.{length-of-height}
 use Rattle.section.specs.Heights.{heightOf}
 use Rattle.section.specs.Limits.{greatestDisk}

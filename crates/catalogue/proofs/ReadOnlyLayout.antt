@@ -8,17 +8,17 @@ use lib.Count.{ones}
 use lib.Dec.{eqb, leb}
 use lib.ListN.{length}
 use borrow.Author.Tests.{eqb-true}
-use Rattle.catalogue.proofs.Fields.{Bytes, field-inv}
+use Rattle.catalogue.proofs.Fields.{field-inv}
 use Rattle.catalogue.proofs.Grouping.{used-fields}
 use Rattle.catalogue.proofs.ReadOnly.{entries-inv, got-rest, got-value, pairs-inv, then-inv}
-use Rattle.catalogue.specs.Encoding.{bigEndian, entriesBytes, pairsBytes, usedBytes}
+use Rattle.catalogue.specs.Encoding.{bigEndian, entriesBytes, pairsBytes, usedBytes, Bytes}
 use Rattle.catalogue.specs.Version.{shortField}
 use Rattle.catalogue.specs.Reading.{Header, Read, bad, got, readEntries, readField, readHeader, readLayout}
 use Rattle.catalogue.specs.Reading.{readPairs, then}
 use Rattle.catalogue.specs.declared.Version.{Version}
-use Rattle.layout.proofs.Swaps.{same}
 use Rattle.layout.specs.Layout.{File, Layout, fileBlocks}
 use Rattle.layout.specs.Lists.{sumOf}
+use Rattle.layout.specs.Moves.{same}
 use Rattle.section.specs.Limits.{mostFiles}
 use Rattle.section.specs.declared.Section.{Section}
 

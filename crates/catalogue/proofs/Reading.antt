@@ -10,18 +10,17 @@ use native.Mathlib.Omega.{arith}
 use lib.Dec.{eqb}
 use lib.ListN.{length, length-append, replicate}
 use borrow.Author.Tests.{eqb-true}
-use Rattle.catalogue.proofs.Fields.{Bytes}
 use Rattle.catalogue.proofs.ReadBackLayout.{catalogue-back}
 use Rattle.catalogue.proofs.ReadOnlyLayout.{layout-inv}
-use Rattle.catalogue.proofs.Roomy.{Roomy}
 use Rattle.catalogue.proofs.Tests.{every-each, test-sound}
-use Rattle.catalogue.specs.Encoding.{encode, usedBytes}
+use Rattle.catalogue.specs.Encoding.{encode, usedBytes, Bytes}
 use Rattle.catalogue.specs.Reading.{Read, Reading, bad, every, got, isSound, judged, readCatalogue}
 use Rattle.catalogue.specs.Reading.{readLayout, sound, unsound}
+use Rattle.catalogue.specs.Roomy.{Roomy}
 use Rattle.catalogue.specs.declared.Version.{Version}
-use Rattle.layout.proofs.Swaps.{same}
 use Rattle.layout.specs.Layout.{Layout}
 use Rattle.layout.specs.Lists.{Each, more}
+use Rattle.layout.specs.Moves.{same}
 use Rattle.layout.specs.Sound.{Sound}
 
 all-zero : (r : List ℕ) → Each (λ b. eqb b 0 ≡ true) r → r ≡ replicate (length r) 0

@@ -2,33 +2,16 @@
 use mathlib.Core.Path.{_≡_, refl}
 use mathlib.Core.Bool.{Bool, cond, false, true}
 use mathlib.Core.List.{List}
-use Prim.Native.Nat.{_*_, _+_, _-_, _<_, _^_, _≤_, ℕ}
+use Prim.Native.Nat.{_-_, _≤_, ℕ}
 use lib.Dec.{eqb}
 use lib.Pow.{pow-mono}
 use native.Mathlib.Omega.{arith}
-use Rattle.catalogue.specs.Encoding.{byteValues}
-use Rattle.catalogue.specs.Version.{OneOf, Served, greatestBlocks, headerSize, here}
-use Rattle.catalogue.specs.Version.{later, shortField, version1, version2, versionFor, versions}
+use Rattle.catalogue.specs.Roomy.{Roomy, usedMost}
+use Rattle.catalogue.specs.Version.{OneOf, Served, greatestBlocks, here}
+use Rattle.catalogue.specs.Version.{later, version1, version2, versionFor, versions}
 use Rattle.catalogue.specs.declared.Version.{Version}
 use Rattle.layout.specs.Lists.{Each, done, more}
-use Rattle.section.specs.Limits.{greatestDisk, greatestHeight, mostFiles}
-
--- the most bytes that a catalogue uses: each list of pairs has at most one fewer than there are heights
-abbrev pub usedMost : Version → ℕ
-usedMost v =
-    headerSize (v .width) + mostFiles * (shortField + v .width + 2 * v .width * (v .heights - 1))
-    + 2 * v .width * (v .heights - 1)
-
--- numbers of blocks fit their field, there are heights, and the buffer has room
-pub record Roomy (v : Version) : Type 0 where
-  pub number : v .number < byteValues ^ shortField
-  pub wide : greatestBlocks v < byteValues ^ v .width
-  pub some-heights : 2 ≤ v .heights
-  pub room : usedMost v ≤ v .bytes
-  -- its buffer's length picks it
-  pub picked : versionFor (v .bytes) ≡ v
-  -- and the code serves it
-  pub served : Served v
+use Rattle.section.specs.Limits.{greatestDisk, greatestHeight}
 
 version1-roomy : Roomy version1
 unfolding versionFor

@@ -7,12 +7,12 @@ use mathlib.Core.Path.{_∙_, _≡_, ap, refl, subst, sym}
 use Prim.Native.Nat.{_≤_, ℕ}
 use native.Mathlib.Omega.{arith}
 use lib.ListN.{length}
-use Rattle.catalogue.proofs.Fields.{Bytes}
 use Rattle.catalogue.proofs.Reading.{encode-unique, reading-iff}
-use Rattle.catalogue.proofs.Roomy.{Roomy, roomy, version-of-one}
+use Rattle.catalogue.proofs.Roomy.{roomy, version-of-one}
 use Rattle.catalogue.proofs.Size.{encode-length}
-use Rattle.catalogue.specs.Encoding.{encode}
+use Rattle.catalogue.specs.Encoding.{encode, Bytes}
 use Rattle.catalogue.specs.Reading.{isSound, readCatalogue, sound}
+use Rattle.catalogue.specs.Roomy.{Roomy}
 use Rattle.catalogue.specs.Version.{OneOf, Served, greatestBlocks, versionFor, versionOf, versions}
 use Rattle.catalogue.specs.declared.Version.{Version}
 use Rattle.catalogue.proofs.Tests.{sound-test, test-sound}

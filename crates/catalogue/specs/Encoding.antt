@@ -1,10 +1,10 @@
 -- The bytes of a catalogue, from a layout: document 01, "The catalogue". Definitions only.
 use mathlib.Core.List.{List, [], _∷_, _++_}
-use Prim.Native.Nat.{ℕ, zero, suc, _-_, _^_, _/_, _%_}
+use Prim.Native.Nat.{ℕ, zero, suc, _-_, _^_, _/_, _%_, _<_}
 use lib.ListN.{length, replicate}
 use Rattle.section.specs.declared.Section.{Section}
 use Rattle.section.specs.Sections.{lengthOf}
-use Rattle.layout.specs.Lists.{sortBy}
+use Rattle.layout.specs.Lists.{sortBy, Each}
 use Rattle.layout.specs.Layout.{File, Layout, fileBlocks, byFirst}
 use Rattle.catalogue.specs.Version.{shortField}
 use Rattle.catalogue.specs.declared.Version.{Version}
@@ -12,6 +12,10 @@ use Rattle.catalogue.specs.declared.Version.{Version}
 -- the values of a byte
 abbrev pub byteValues : ℕ
 byteValues = 256
+
+-- each number is a byte
+abbrev pub Bytes : List ℕ → Type 0
+Bytes bs = Each (λ b. b < byteValues) bs
 
 -- x in w bytes, the highest first
 unfoldable pub bigEndian : ℕ → ℕ → List ℕ

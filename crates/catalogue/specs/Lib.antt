@@ -2,3 +2,5 @@
 pub mod Version
 pub mod Encoding
 pub mod Reading
+pub mod Roomy
+pub mod Cases

@@ -16,13 +16,13 @@ use Rattle.decoder.proofs.Files.{file-many, file-parts, file-read, file
 use Rattle.decoder.proofs.Runs.{pairs-bad, pairs-count, pairs-got}
 use Rattle.decoder.specs.Entries.{EntryAt, NoFile, accepted, entryIn, isFile}
 use Rattle.decoder.specs.Fields.{FieldAt, PairsAt}
+use Rattle.section.specs.Nesting.{inside}
 use Rattle.soundness.specs.Order.{inOrder}
 use Rattle.decoder.specs.Pieces.{Sorts}
 use Rattle.decoder.specs.declared.EntryRead.{EntryRead}
 use Rattle.decoder.specs.declared.PairsRead.{PairsRead}
 use Rattle.layout.proofs.Lists.{sum-sort}
 use Rattle.layout.specs.Layout.{File, blockCount, byLength}
-use Rattle.section.proofs.Nested.{inside}
 use Rattle.section.specs.Sections.{lengthOf}
 use Rattle.section.specs.declared.Section.{Section}
 use Rattle.piece_lists.specs.Few.{listOf, piecePlaces}

@@ -16,8 +16,8 @@ use Rattle.decoder.specs.declared.EntryRead.{EntryRead}
 use Rattle.piece_lists.proofs.EachItem.{each-set}
 use Rattle.layout.specs.Layout.{fileBlocks}
 use Rattle.layout.specs.Lists.{Each, sumOf}
-use Rattle.section.proofs.Nested.{inside}
 use Rattle.section.specs.Limits.{greatestDisk, mostFiles}
+use Rattle.section.specs.Nesting.{inside}
 use Rattle.table.specs.Tables.{InPlaces}
 use Rattle.table.specs.declared.Entry.{Entry}
 

@@ -23,9 +23,9 @@ use Rattle.section.proofs.Multiples.{below-or-not}
 use Rattle.decoder.specs.Fields.{FieldAt, PairAt, pairIn}
 use Rattle.decoder.specs.declared.PairRead.{PairRead}
 use Rattle.section.proofs.Lengths.{length-greatest, length-of-height}
-use Rattle.section.proofs.Nested.{inside}
 use Rattle.section.specs.Heights.{heightOf}
 use Rattle.section.specs.Limits.{greatestDisk, greatestHeight}
+use Rattle.section.specs.Nesting.{inside}
 use Rattle.section.specs.Sections.{lengthOf}
 use Rattle.section.specs.declared.Height.{Height}
 use Rattle.section.specs.declared.Measured.the-variants as Measured·

@@ -19,8 +19,8 @@ use Rattle.decoder.specs.declared.PairsRead.{PairsRead}
 use Rattle.layout.proofs.Lists.{sum-append}
 use Rattle.layout.specs.Layout.{blockCount}
 use Rattle.layout.specs.Lists.{sumOf}
-use Rattle.section.proofs.Nested.{inside}
 use Rattle.section.specs.Limits.{greatestDisk}
+use Rattle.section.specs.Nesting.{inside}
 use Rattle.section.specs.declared.Section.{Section}
 use Rattle.piece_lists.specs.Few.{listOf, piecePlaces}
 

@@ -12,6 +12,7 @@ use Rattle.catalogue.specs.Version.{Served, headerSize}
 use Rattle.catalogue.specs.declared.Version.{Version}
 use Rattle.decoder.proofs.EntryRuns.{EntriesLeft}
 use Rattle.decoder.proofs.Filled.{FilesAt, filled-end, filled-sum}
+use Rattle.section.specs.Nesting.{inside}
 use Rattle.soundness.proofs.Joined.{filesTo}
 use Rattle.soundness.proofs.Points.{false-true}
 use Rattle.decoder.proofs.Runs.{pairs-bad, pairs-got}
@@ -25,7 +26,6 @@ use Rattle.decoder.specs.declared.TableRead.{TableRead}
 use Rattle.layout.specs.Layout.{blockCount, fileBlocks}
 use Rattle.layout.specs.Lists.{sumOf}
 use Rattle.layout.specs.Merges.{rest}
-use Rattle.section.proofs.Nested.{inside}
 use Rattle.piece_lists.specs.Few.{listOf, piecePlaces}
 use Rattle.free_pieces.specs.Free.{Lists, freeOf}
 use Rattle.free_pieces.specs.declared.Free.{Free}

@@ -6,10 +6,10 @@ use Prim.Native.Nat.{_+_, _-_, _<_, _≤_, suc, zero, ℕ}
 use native.Mathlib.Omega.{arith}
 use lib.Dec.{eqb}
 use borrow.Author.Tests.{eq-eqb, ne-eqb}
+use Rattle.section.specs.Nesting.{Placed}
 use Rattle.section.specs.declared.Section.{Section}
 use Rattle.section.specs.Sections.{endOf, isInside, lengthOf}
 use Rattle.section.proofs.Answers.{inside-iff}
-use Rattle.section.proofs.Nested.{Placed}
 use Rattle.layout.specs.Layout.{InOrder, holdsBlock}
 use Rattle.layout.specs.Lists.{Each, done, more, next, sumOf}
 use Rattle.layout.specs.Removing.{Copy, copiesFrom, copyRun}

@@ -8,7 +8,7 @@ use native.Mathlib.Omega.{arith}
 use lib.Dec.{eqb, ltb}
 use borrow.Author.Tests.{eqb-false, le-ltb, lt-ltb, ne-eqb}
 use Rattle.layout.proofs.Lists.{each-all, each-imp, each-right, sum-append}
-use Rattle.layout.proofs.MergeParts.{MergeParts, buddy-block}
+use Rattle.layout.proofs.MergeParts.{buddy-block}
 use Rattle.layout.proofs.Ranges.{inRange-le-one}
 use Rattle.layout.specs.Covering.{Rising}
 use Rattle.layout.specs.Layout.{Layout, filePieces, holdsBlock}
@@ -20,6 +20,7 @@ use Rattle.section.specs.declared.Section.{Section}
 use Rattle.layout.proofs.FreeBuddies.{in-order}
 use Rattle.free_pieces.proofs.GapRuns.{gaps-are}
 use Rattle.layout.specs.Layout.{InOrder}
+use Rattle.layout.specs.Moves.{MergeParts}
 use Rattle.free_pieces.specs.Gaps.{freeCopies, gapCopies}
 
 one-or-other : (f k : ℕ) → f + k ≡ 1 → ltb 0 f ≡ eqb k 0

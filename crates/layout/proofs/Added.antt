@@ -8,14 +8,14 @@ use native.Mathlib.Omega.{arith}
 use lib.Dec.{leb}
 use lib.ListN.{length}
 use borrow.Author.Tests.{leb-false, leb-true}
-use Rattle.layout.proofs.Allocating.{allocate-is}
+use Rattle.layout.proofs.Allocating.{AllocatesOf, allocate-is}
 use Rattle.layout.proofs.Finding.{missing-none}
 use Rattle.layout.proofs.Lists.{each-append, each-imp, each-insert, each-left, each-right, length-insert}
 use Rattle.layout.proofs.Lists.{map-insert, sum-append, sum-insert}
 use Rattle.layout.proofs.Ranges.{inRange-le-one}
 use Rattle.layout.proofs.SoundSums.{falling-heights, free-is}
 use Rattle.layout.specs.Adding.{Allocated, allocate, allocated, tooFew, withFile}
-use Rattle.layout.specs.Allocations.{Allocates, AllocatesOf, Stock}
+use Rattle.layout.specs.Allocations.{Allocates, Stock}
 use Rattle.layout.specs.Layout.{File, Layout, byId, filePieces, freeBlocks, hasFile, holdsBlock}
 use Rattle.layout.specs.Lists.{Each, done, insertBy, more, next, none, sumOf}
 use Rattle.layout.specs.Sound.{greatestId}

@@ -11,10 +11,11 @@ use Rattle.layout.proofs.Splitting.{TakesPieceOf, at-most-one-small, co
 use Rattle.layout.proofs.Splitting.{ofHeight-other, ofHeight-same, takePiece-is}
 use Rattle.layout.specs.Adding.{Allocated, Taken, allocate, allocated, nothing, takePiece, taken, tooFew}
 use Rattle.layout.specs.Adding.{withPiece}
-use Rattle.layout.specs.Allocations.{AllocatesOf, Stock}
+use Rattle.layout.specs.Allocations.{Allocates, Stock}
 use Rattle.layout.specs.Covering.{Falling, AtMostOne, countOf}
 use Rattle.layout.specs.Layout.{OnDisk}
-use Rattle.layout.specs.Lists.{Each, done, more, next, none}
+use Rattle.layout.specs.Lists.{Each, done, more, next, none, sumOf}
+use Rattle.section.specs.Sections.{lengthOf}
 use Rattle.section.specs.declared.Section.{Section}
 
 pub falling-thin : {l : List Section} → Falling l → AtMostOne l
@@ -29,6 +30,10 @@ falling-thin (next {a = a} {l = l} e f) h = go (ℕ-discrete (a .height .value) 
 pub height-lt : (c k : ℕ) → c < 2 ^ k → (s : Section) → OnDisk c s → s .height .value < k
 height-lt c k p s d =
     lt-of-not-le (λ q. let m : 2 ^ k ≤ 2 ^ s .height .value = pow-mono q in omega (arith, d .within))
+
+abbrev pub AllocatesOf : ℕ → ℕ → ℕ → List Section → Allocated → Type 0
+AllocatesOf c h n free (allocated s r) = Allocates c h n free s r
+AllocatesOf c h n free tooFew = sumOf lengthOf free < n % 2 ^ h
 
 -- the remainder by 2^(h+1), by the digit at h
 pub mod-digit : (n h : ℕ) → n % 2 ^ suc h ≡ (n / 2 ^ h % 2) * 2 ^ h + n % 2 ^ h

@@ -8,9 +8,9 @@ use lib.Dec.{eqb, leb}
 use lib.ListN.{length}
 use borrow.Author.Tests.{eq-eqb, eqb-false, eqb-true, ne-eqb}
 use Rattle.layout.proofs.Lists.{each-append, each-left, each-right, sum-append}
-use Rattle.layout.proofs.Swaps.{same}
 use Rattle.layout.specs.Layout.{File, Found, byId, filePieces, findFile, found, hasFile, isFound}
 use Rattle.layout.specs.Lists.{Each, done, insertBy, more, next, sumOf}
+use Rattle.layout.specs.Moves.{same}
 use Rattle.layout.specs.Removals.{Find, here, there}
 use Rattle.layout.specs.Removing.{withoutFile}
 use Rattle.layout.specs.Sums.{RisingIds, Shape, shape}

@@ -1,6 +1,6 @@
 -- Which blocks the copies of a merge read and write, and where they bring each block. Assumes nothing.
 use mathlib.Core.Bool.{Bool, cond, false, true}
-use mathlib.Core.List.{List, []}
+use mathlib.Core.List.{[]}
 use mathlib.Core.Logic.{inl, inr}
 use mathlib.Core.Path.{_∙_, _≡_, ap, refl}
 use Prim.Native.Nat.{_+_, _-_, _^_, ℕ}
@@ -11,15 +11,12 @@ use Rattle.layout.proofs.CopiesFrom.{each-from}
 use Rattle.layout.proofs.Lists.{each-imp}
 use Rattle.layout.proofs.Origins.{InRun, copyRun-in-run, origin-from, origin-off}
 use Rattle.layout.proofs.Ranges.{Position, above, below, position, within}
-use Rattle.layout.proofs.Swaps.{SameOrApart, left, right, same, swap, swap-first, swap-off}
+use Rattle.layout.proofs.Swaps.{swap, swap-first, swap-off}
 use Rattle.layout.specs.Lists.{Each, done}
 use Rattle.layout.specs.Merges.{origin}
+use Rattle.layout.specs.Moves.{runOrNone, SameOrApart, left, right, same}
 use Rattle.layout.specs.Removing.{Copy, copiesFrom, copyRun}
 use Rattle.section.specs.Sections.{Apart}
-
--- of n blocks from b those that pass the test copied to u, none if the two are the same
-abbrev pub runOrNone : (ℕ → Bool) → ℕ → ℕ → ℕ → List Copy
-runOrNone p n b u = cond (eqb b u) [] (copiesFrom p (copyRun b u n))
 
 sep-off : (b u n : ℕ) → (b ≡ u → ⊥) → SameOrApart b u n → Apart b n u n
 sep-off b u n z (same e) = absurd (z e)

@@ -10,13 +10,14 @@ use lib.ListN.{length}
 use borrow.Author.Tests.{eqb-true, le-ltb}
 use Rattle.layout.proofs.CopiesFrom.{count-from, counted-none}
 use Rattle.layout.proofs.Lists.{sum-append}
-use Rattle.layout.proofs.MergeParts.{MergeParts, merge-parts}
+use Rattle.layout.proofs.MergeParts.{merge-parts}
 use Rattle.layout.proofs.Ranges.{inRange-inside, inRange-le-one}
 use Rattle.layout.specs.Choices.{Mergeable}
 use Rattle.layout.specs.Covering.{Whole}
 use Rattle.layout.specs.Layout.{Layout, filePieces, holdsBlock}
 use Rattle.layout.specs.Lists.{sumOf}
 use Rattle.layout.specs.Merges.{heldIn}
+use Rattle.layout.specs.Moves.{MergeParts}
 use Rattle.layout.specs.Removing.{copiesFrom, copyRun, isHeld, merge}
 use Rattle.section.specs.Sections.{buddyOf, lengthOf}
 use Rattle.section.specs.declared.Section.{Section}

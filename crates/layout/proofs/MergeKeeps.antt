@@ -6,8 +6,8 @@ use Prim.Native.Nat.{_^_, _≤_, suc, zero, ℕ}
 use native.Mathlib.Omega.{arith}
 use lib.Dec.{eqb}
 use lib.ListN.{length}
-use Rattle.layout.proofs.MergeCopies.{runOrNone}
 use Rattle.layout.proofs.CopiesFrom.{count-from, counted-le}
+use Rattle.layout.specs.Moves.{runOrNone}
 use Rattle.layout.specs.Removing.{copiesFrom, copyRun}
 
 pub length-copyRun : (b u n : ℕ) → length (copyRun b u n) ≡ n

@@ -1,6 +1,6 @@
 -- What is known of the two free sections that a merge takes in a whole layout, l and u, of l's buddy and of all other
 -- pieces. Assumes nothing.
-use mathlib.Core.List.{List, _++_, _∷_}
+use mathlib.Core.List.{List, _∷_}
 use mathlib.Core.Logic.{inl, inr}
 use mathlib.Core.Path.{_≡_, ap, subst}
 use Prim.Native.Nat.{_+_, _<_, _≤_, ℕ}
@@ -8,33 +8,15 @@ use native.Mathlib.Omega.{arith}
 use Rattle.layout.proofs.Lists.{each-append, each-left, each-right, sum-append}
 use Rattle.layout.proofs.Merging.{buddy-below, buddy-on-disk, movable}
 use Rattle.layout.proofs.MovedPieces.{section-eta}
-use Rattle.layout.proofs.Moving.{Movable}
 use Rattle.layout.proofs.Ranges.{inRange-above, inRange-below, inRange-inside}
-use Rattle.layout.proofs.Swaps.{SameOrApart, left, right, same}
 use Rattle.layout.specs.Choices.{Mergeable}
 use Rattle.layout.specs.Covering.{Covers, Whole}
 use Rattle.layout.specs.Layout.{Layout, OnDisk, filePieces, holdsBlock, inRange}
 use Rattle.layout.specs.Lists.{Each, sumOf}
+use Rattle.layout.specs.Moves.{MergeParts, otherPieces, SameOrApart, left, right, same}
 use Rattle.section.proofs.Buddies.{buddy-aligned, buddy-apart}
 use Rattle.section.specs.Sections.{Apart, buddyOf, endOf, lengthOf, section}
 use Rattle.section.specs.declared.Section.{Section}
-
--- every piece but l and u
-abbrev pub otherPieces : Layout → List Section → List Section
-otherPieces w r = filePieces (w .files) ++ r
-
-pub record MergeParts (c : ℕ) (w : Layout) (l u : Section) (r : List Section) : Type 0 where
-  pub lower : OnDisk c l
-  pub upper : OnDisk c (section (u .first) (l .height .value))
-  pub buddy : OnDisk c (buddyOf l)
-  pub free : Each (OnDisk c) r
-  pub others : Each (OnDisk c) (otherPieces w r)
-  pub covers : Covers c (l ∷ section (u .first) (l .height .value) ∷ otherPieces w r)
-  -- u is the buddy, or the two are apart
-  pub place : SameOrApart (buddyOf l .first) (u .first) (lengthOf l)
-  pub below : buddyOf l .first ≤ u .first
-  -- every other piece is inside the buddy or apart from it, and apart from u
-  pub movable : Each (Movable (l .height .value) (buddyOf l .first) (u .first)) (otherPieces w r)
 
 module _ (c : ℕ) (w : Layout) (l u : Section) (r : List Section) (wh : Whole c w)
     (p : Mergeable (l .height .value) (w .free) l u r) where

@@ -15,7 +15,7 @@ use Rattle.layout.proofs.Lists.{each-imp, each-right}
 use Rattle.layout.proofs.MergeHeld.{merge-number}
 use Rattle.layout.proofs.MergePairs.{lowest-unless-buddies, lowestTwo-lowest}
 use Rattle.layout.proofs.MergePairs.{mergePair-is}
-use Rattle.layout.proofs.MergeParts.{MergeParts, buddy-block, merge-parts}
+use Rattle.layout.proofs.MergeParts.{buddy-block, merge-parts}
 use Rattle.layout.proofs.Merging.{within-height}
 use Rattle.layout.proofs.Moving.{placed-off}
 use Rattle.layout.proofs.Ranges.{Position, above, below, inRange-above, inRange-below, inRange-inside}
@@ -25,9 +25,10 @@ use Rattle.layout.specs.Choices.{LowestOf, Mergeable, MergeableOf}
 use Rattle.layout.specs.Covering.{Whole, countOf}
 use Rattle.layout.specs.Layout.{Layout, filePieces, holdsBlock, inRange, ofHeight}
 use Rattle.layout.specs.Lists.{Each, done, more, sumOf}
+use Rattle.layout.specs.Moves.{MergeParts}
 use Rattle.layout.specs.Removing.{isHeld, merge, mergePair, pair}
 use Rattle.section.proofs.Answers.{inside-iff}
-use Rattle.section.proofs.Nested.{Placed}
+use Rattle.section.specs.Nesting.{Placed}
 use Rattle.section.specs.Sections.{buddyOf, endOf, isInside, lengthOf}
 use Rattle.section.specs.declared.Section.{Section}
 

@@ -11,20 +11,20 @@ use Rattle.layout.proofs.Lists.{each-append, each-head, each-imp, each-
 use Rattle.layout.proofs.Lists.{each-sort, each-tail, length-sum, map-append, sum-append, sum-insert}
 use Rattle.layout.proofs.Lists.{sum-map, sum-sort}
 use Rattle.layout.proofs.MergeKeeps.{copies-le}
-use Rattle.layout.proofs.MergeParts.{MergeParts, merge-parts, otherPieces}
+use Rattle.layout.proofs.MergeParts.{merge-parts}
 use Rattle.layout.proofs.Merging.{merge-covers, merge-on-disk}
 use Rattle.layout.proofs.MergingCopies.{merge-apart, merge-copies-rise, merge-files, merge-reach}
 use Rattle.layout.proofs.MergingCopies.{merge-sources-held, merge-targets-held}
 use Rattle.layout.proofs.MovedPieces.{count-moved, pieces-moved, section-eta, sum-moved}
 use Rattle.layout.proofs.Ranges.{inRange-inside, inRange-le-one}
 use Rattle.layout.proofs.Splitting.{ofHeight-other, ofHeight-same}
-use Rattle.layout.proofs.Swaps.{same}
 use Rattle.layout.proofs.Taking.{insert-rising, sort-rising}
 use Rattle.layout.specs.Choices.{Mergeable}
 use Rattle.layout.specs.Covering.{Whole, countOf}
 use Rattle.layout.specs.Layout.{Layout, OnDisk, byFirst, filePieces, holdsBlock, inRange, ofHeight}
 use Rattle.layout.specs.Lists.{Each, sumOf}
 use Rattle.layout.specs.Merges.{IntoFree, MergeKeeps}
+use Rattle.layout.specs.Moves.{MergeParts, otherPieces, same}
 use Rattle.layout.specs.Removing.{isHeld, merge, movedFile}
 use Rattle.section.proofs.Booleans.{and-true, false-and}
 use Rattle.section.proofs.Multiples.{length-double}

@@ -11,18 +11,18 @@ use lib.Dec.{eqb}
 use lib.Pow.{pow-lt, pow-pos}
 use borrow.Author.Tests.{eqb-false, eqb-true}
 use Rattle.layout.proofs.Lists.{each-and, each-imp, each-map, sum-ge-all}
-use Rattle.layout.proofs.Moving.{Carried, Movable, carry, move-covers, moving}
+use Rattle.layout.proofs.Moving.{Carried, carry, move-covers}
 use Rattle.layout.proofs.Ranges.{inRange-apart, inRange-halves, inRange-le-one, within}
-use Rattle.layout.proofs.Swaps.{SameOrApart, left, same}
 use Rattle.layout.specs.Covering.{Covers}
 use Rattle.layout.specs.Layout.{OnDisk, holdsBlock, inRange}
 use Rattle.layout.specs.Lists.{Each, more, sumOf}
+use Rattle.layout.specs.Moves.{Movable, SameOrApart, left, moving, same}
 use Rattle.section.proofs.Answers.{inside-iff}
-use Rattle.section.proofs.Buddies.{Halves, buddy-aligned, buddy-apart, buddy-inside, buddy-of-lower, halves, lower}
-use Rattle.section.proofs.Buddies.{parent-aligned, upper}
+use Rattle.section.proofs.Buddies.{buddy-aligned, buddy-apart, buddy-inside, buddy-of-lower, halves}
+use Rattle.section.proofs.Buddies.{parent-aligned}
 use Rattle.section.proofs.Moves.{moved-aligned, moved-apart-stays, moved-inside}
 use Rattle.section.proofs.Multiples.{below-or-not, length-double, multiple-gap, multiple-sum}
-use Rattle.section.proofs.Nested.{Placed, after, before, inside}
+use Rattle.section.specs.Nesting.{Halves, Placed, after, before, inside, lower, upper}
 use Rattle.section.specs.Sections.{Apart, Within, buddyFirst, endOf, lengthOf, parentFirst, section}
 use Rattle.section.specs.declared.Section.{Section}
 

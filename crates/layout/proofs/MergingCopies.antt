@@ -10,20 +10,20 @@ use lib.Dec.{ltb}
 use borrow.Author.Tests.{lt-ltb}
 use Rattle.layout.proofs.FilesMoved.{Goes, files-moved}
 use Rattle.layout.proofs.Lists.{each-and, each-imp, each-left, sum-ge-all}
-use Rattle.layout.proofs.MergeCopies.{MergeCopy, merge-origin, merge-within, runOrNone}
-use Rattle.layout.proofs.MergeParts.{MergeParts}
+use Rattle.layout.proofs.MergeCopies.{MergeCopy, merge-origin, merge-within}
 use Rattle.layout.proofs.MovedPieces.{pieces-moved}
-use Rattle.layout.proofs.Moving.{Movable, carry, move-holds, moving}
+use Rattle.layout.proofs.Moving.{carry, move-holds}
 use Rattle.layout.proofs.Origins.{InRun}
 use Rattle.layout.proofs.Ranges.{inRange-inside}
-use Rattle.layout.proofs.Swaps.{SameOrApart, left, right, same, swap, swap-first, swap-swap}
+use Rattle.layout.proofs.Swaps.{swap, swap-first, swap-swap}
 use Rattle.layout.specs.Layout.{File, Layout, filePieces, holdsBlock}
 use Rattle.layout.specs.Lists.{Each, sumOf, Zipped}
 use Rattle.layout.specs.Merges.{InDisk, Moved, origin}
+use Rattle.layout.specs.Moves.{MergeParts, Movable, SameOrApart, left, moving, right, runOrNone, same}
 use Rattle.layout.specs.Removing.{Copy, isHeld, movedFile}
 use Rattle.section.proofs.Answers.{inside-iff}
 use Rattle.section.proofs.Moves.{moved-apart-stays, moved-inside}
-use Rattle.section.proofs.Nested.{Placed, after, before, inside}
+use Rattle.section.specs.Nesting.{Placed, after, before, inside}
 use Rattle.section.specs.Sections.{Apart, buddyFirst, lengthOf, section}
 use Rattle.section.specs.declared.Section.{Section}
 

@@ -12,7 +12,8 @@ use Rattle.layout.specs.Choices.{BuddyAbove}
 use Rattle.layout.specs.Layout.{OnDisk}
 use Rattle.layout.specs.Lists.{Each}
 use Rattle.layout.specs.Removing.{buddyPair, fewer}
-use Rattle.section.proofs.Buddies.{Halves, buddy-buddy, halves, lower, upper}
+use Rattle.section.proofs.Buddies.{buddy-buddy, halves}
+use Rattle.section.specs.Nesting.{Halves, lower, upper}
 use Rattle.section.specs.Sections.{buddyFirst, buddyOf, lengthOf, parentOf}
 use Rattle.section.specs.declared.Section.{Section}
 

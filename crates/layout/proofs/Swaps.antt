@@ -5,13 +5,8 @@ use Prim.Native.Nat.{_+_, _-_, _<_, _≤_, ℕ}
 use native.Mathlib.Omega.{arith}
 use Rattle.layout.proofs.Ranges.{Position, above, below, inRange-above, inRange-inside, position, within}
 use Rattle.layout.specs.Layout.{inRange}
+use Rattle.layout.specs.Moves.{SameOrApart, left, right, same}
 use Rattle.section.specs.Sections.{Apart}
-
--- two spans of n blocks are the same or apart
-pub data SameOrApart (b u n : ℕ) : Type 0 where
-  same : b ≡ u → SameOrApart b u n
-  left : b + n ≤ u → SameOrApart b u n
-  right : u + n ≤ b → SameOrApart b u n
 
 -- the n blocks from b change places with those from u
 abbrev pub swapAt : {x b u n : ℕ} → Position x b n → Position x u n → ℕ

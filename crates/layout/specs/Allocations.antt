@@ -2,7 +2,6 @@
 use mathlib.Core.List.{List}
 use mathlib.Core.Path.{_≡_}
 use Prim.Native.Nat.{ℕ, _%_, _+_, _<_, _^_}
-use Rattle.layout.specs.Adding.{Allocated, allocated, tooFew}
 use Rattle.layout.specs.Covering.{AtMostOne, Rising, Falling}
 use Rattle.layout.specs.Layout.{OnDisk, holdsBlock}
 use Rattle.layout.specs.Lists.{Each, sumOf}
@@ -24,8 +23,3 @@ pub record Allocates (c h n : ℕ) (free s r : List Section) : Type 0 where
   pub held : (x : ℕ) → sumOf (holdsBlock x) free ≡ sumOf (holdsBlock x) s + sumOf (holdsBlock x) r
   pub size : sumOf lengthOf free ≡ sumOf lengthOf s + sumOf lengthOf r
   pub blocks : sumOf lengthOf s ≡ n % 2 ^ h
-
--- what is allocated, or too few free blocks
-abbrev pub AllocatesOf : ℕ → ℕ → ℕ → List Section → Allocated → Type 0
-AllocatesOf c h n free (allocated s r) = Allocates c h n free s r
-AllocatesOf c h n free tooFew = sumOf lengthOf free < n % 2 ^ h

@@ -13,3 +13,4 @@ pub mod Merges
 pub mod Sums
 pub mod Removals
 pub mod Cases
+pub mod Moves

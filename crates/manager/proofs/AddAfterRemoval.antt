@@ -13,8 +13,8 @@ use Rattle.layout.proofs.RemovedRoom.{RoomAfter, removal-room}
 use Rattle.layout.specs.Layout.{File, Layout, fileBlocks, findFile, found, freeBlocks}
 use Rattle.layout.specs.Removing.{layoutAfter, release, removal}
 use Rattle.layout.specs.Sound.{Sound, greatestId}
-use Rattle.catalogue.proofs.Roomy.{Roomy}
 use Rattle.catalogue.specs.Encoding.{encode}
+use Rattle.catalogue.specs.Roomy.{Roomy}
 use Rattle.catalogue.specs.declared.Version.{Version}
 use Rattle.manager.specs.Conditions.{Outcome, unpaged}
 use Rattle.manager.specs.Disk.{pageCount}

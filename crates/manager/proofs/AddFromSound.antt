@@ -8,8 +8,8 @@ use native.Mathlib.Omega.{arith}
 use lib.Dec.{eqb, leb, ltb}
 use lib.ListN.{length}
 use borrow.Author.Tests.{le-ltb, lt-leb, ltb-false, ne-eqb}
-use Rattle.catalogue.proofs.Roomy.{Roomy}
 use Rattle.catalogue.specs.Encoding.{encode}
+use Rattle.catalogue.specs.Roomy.{Roomy}
 use Rattle.catalogue.specs.declared.Version.{Version}
 use Rattle.layout.proofs.Added.{added-once, added-size, added-sound, allocate-fits}
 use Rattle.layout.proofs.Lists.{each-head, each-tail}

@@ -7,13 +7,13 @@ use native.Mathlib.Omega.{arith}
 use lib.Dec.{eqb, leb, ltb}
 use lib.ListN.{drop, length, length-map, take}
 use borrow.Author.Tests.{eqb-false, leb-false, ltb-false}
-use Rattle.catalogue.proofs.Roomy.{Roomy}
 use Rattle.catalogue.specs.Encoding.{encode}
+use Rattle.catalogue.specs.Roomy.{Roomy}
 use Rattle.catalogue.specs.declared.Version.{Version}
-use Rattle.layout.proofs.Swaps.{same}
 use Rattle.layout.specs.Adding.{allocate}
 use Rattle.layout.specs.Layout.{File, Found, Layout, breaksOf, fileBlocks, findFile, found, freeBlocks, hasFile}
 use Rattle.layout.specs.Layout.{isFound, missing}
+use Rattle.layout.specs.Moves.{same}
 use Rattle.layout.specs.Removing.{release, removal}
 use Rattle.layout.specs.Sound.{Sound, greatestId}
 use Rattle.manager.proofs.AddFromSound.{adds}

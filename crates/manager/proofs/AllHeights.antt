@@ -2,7 +2,8 @@
 -- heights, and what they make is sound in the version, by its C. Assumes nothing.
 use Prim.Native.Nat.{_≤_, ℕ}
 use native.Mathlib.Omega.{arith}
-use Rattle.catalogue.proofs.Roomy.{Roomy, served-blocks}
+use Rattle.catalogue.proofs.Roomy.{served-blocks}
+use Rattle.catalogue.specs.Roomy.{Roomy}
 use Rattle.catalogue.specs.Version.{greatestBlocks}
 use Rattle.catalogue.specs.declared.Version.{Version}
 use Rattle.layout.proofs.Fresh.{fresh-sound}

@@ -5,9 +5,9 @@ use mathlib.Core.Path.{_∙_, _≡_, ap, sym}
 use Prim.Native.Nat.{ℕ}
 use native.Mathlib.Omega.{arith}
 use lib.ListN.{length}
-use Rattle.catalogue.proofs.Fields.{Bytes}
 use Rattle.catalogue.proofs.Roomy.{roomy, version-of-one}
 use Rattle.catalogue.proofs.Versions.{reading-any}
+use Rattle.catalogue.specs.Encoding.{Bytes}
 use Rattle.catalogue.specs.Reading.{readCatalogue, sound, unsound}
 use Rattle.catalogue.specs.Version.{versionFor, versionOf}
 use Rattle.catalogue.specs.declared.Version.{Version}

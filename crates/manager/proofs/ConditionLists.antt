@@ -14,7 +14,7 @@ use Rattle.manager.specs.Conditions.{Condition, Judgement, allowed, cond
 use Rattle.manager.specs.Table.{Refusal, bufferLength, catalogueLength, diskLength, filesFull, formatDisk}
 use Rattle.manager.specs.Table.{idMissing, idThere, idZero, isListed, noSpace, notSound, numberOf, pastEnd}
 use Rattle.section.proofs.Booleans.{and-true}
-use Rattle.section.proofs.Buddies.{lower}
+use Rattle.section.specs.Nesting.{lower}
 
 -- the refusals by their numbers; there is none of number 0
 abbrev refusals : List Refusal

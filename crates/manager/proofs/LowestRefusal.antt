@@ -6,8 +6,8 @@ use mathlib.Core.Path.{_∙_, _≡_, ap, refl, sym}
 use Prim.Native.Nat.{_<_, ℕ}
 use native.Mathlib.Omega.{arith}
 use lib.ListN.{length}
-use Rattle.catalogue.proofs.Fields.{Bytes}
 use Rattle.catalogue.proofs.Roomy.{roomy}
+use Rattle.catalogue.specs.Encoding.{Bytes}
 use Rattle.catalogue.specs.Reading.{Reading, readCatalogue, sound, unsound}
 use Rattle.catalogue.specs.Version.{versionOf}
 use Rattle.layout.proofs.Added.{allocate-fits}

@@ -7,9 +7,9 @@ use lib.ListN.{length}
 use borrow.Author.Tests.{eq-eqb, ne-eqb}
 use Rattle.catalogue.specs.Reading.{readCatalogue, sound, unsound}
 use Rattle.catalogue.specs.declared.Version.{Version}
-use Rattle.layout.proofs.Swaps.{right}
 use Rattle.layout.specs.Adding.{allocate}
 use Rattle.layout.specs.Layout.{Layout, findFile, freeBlocks}
+use Rattle.layout.specs.Moves.{right}
 use Rattle.manager.specs.Conditions.{Condition, addChecks, answered, condition, fileChecks, firstRefusal}
 use Rattle.manager.specs.Conditions.{onLayout, outcome, readChecks, refusal, refused, replyUnless}
 use Rattle.manager.specs.Conditions.{unlessRefused, wrongCatalogue, wrongDisk}

@@ -6,10 +6,10 @@ use Prim.Native.Nat.{_*_, ℕ}
 use lib.ListN.{length}
 use borrow.Author.Tests.{eq-eqb}
 use Rattle.catalogue.proofs.ReadBackLayout.{catalogue-back}
-use Rattle.catalogue.proofs.Roomy.{Roomy}
 use Rattle.catalogue.proofs.Size.{encode-length}
 use Rattle.catalogue.specs.Encoding.{encode}
 use Rattle.catalogue.specs.Reading.{readCatalogue, sound}
+use Rattle.catalogue.specs.Roomy.{Roomy}
 use Rattle.catalogue.specs.declared.Version.{Version}
 use Rattle.layout.specs.Adding.{allocate}
 use Rattle.layout.specs.Layout.{Layout, findFile, freeBlocks}

@@ -7,9 +7,9 @@ use Prim.Native.Nat.{ℕ}
 use lib.Dec.{eqb}
 use lib.ListN.{length}
 use borrow.Author.Tests.{eq-eqb, ne-eqb}
-use Rattle.catalogue.proofs.Fields.{Bytes}
 use Rattle.catalogue.proofs.Roomy.{roomy, version-of-one}
 use Rattle.catalogue.proofs.Versions.{reading-any}
+use Rattle.catalogue.specs.Encoding.{Bytes}
 use Rattle.catalogue.specs.Reading.{Reading, readCatalogue, sound, unsound}
 use Rattle.catalogue.specs.Version.{OneOf, versionFor, versionOf, versions}
 use Rattle.catalogue.specs.declared.Version.{Version}

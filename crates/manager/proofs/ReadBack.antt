@@ -8,8 +8,8 @@ use native.Mathlib.Omega.{arith}
 use lib.Dec.{eqb}
 use lib.ListN.{drop, length, length-drop, length-take, take}
 use borrow.Author.Tests.{le-ltb, ne-eqb}
-use Rattle.catalogue.proofs.Roomy.{Roomy}
 use Rattle.catalogue.specs.Encoding.{encode}
+use Rattle.catalogue.specs.Roomy.{Roomy}
 use Rattle.catalogue.specs.declared.Version.{Version}
 use Rattle.layout.proofs.Finding.{find-each, found-find, found-inserted}
 use Rattle.layout.proofs.Lists.{each-left}

@@ -7,8 +7,8 @@ use native.Mathlib.Omega.{arith}
 use lib.Dec.{eqb}
 use lib.ListN.{length}
 use borrow.Author.Tests.{ne-eqb}
-use Rattle.catalogue.proofs.Roomy.{Roomy}
 use Rattle.catalogue.specs.Encoding.{encode}
+use Rattle.catalogue.specs.Roomy.{Roomy}
 use Rattle.catalogue.specs.declared.Version.{Version}
 use Rattle.layout.proofs.Finding.{find-id, found-find}
 use Rattle.layout.proofs.MergeAll.{merged-reach}

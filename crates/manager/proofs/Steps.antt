@@ -4,14 +4,14 @@ use mathlib.Core.Path.{_∙_, _≡_, ap, ap₂, refl, subst, sym}
 use Prim.Native.Nat.{_*_, _≤_, ℕ}
 use native.Mathlib.Omega.{arith}
 use lib.ListN.{length}
-use Rattle.catalogue.proofs.Roomy.{Roomy}
 use Rattle.catalogue.specs.Encoding.{encode}
+use Rattle.catalogue.specs.Roomy.{Roomy}
 use Rattle.catalogue.specs.declared.Version.{Version}
 use Rattle.layout.proofs.Finding.{find-id, found-find}
-use Rattle.layout.proofs.Swaps.{same}
 use Rattle.layout.specs.Adding.{withFile}
 use Rattle.layout.specs.Carries.{carries}
 use Rattle.layout.specs.Layout.{File, Layout, breaksOf, fileBlocks, findFile, found}
+use Rattle.layout.specs.Moves.{same}
 use Rattle.layout.specs.Removing.{copiesOf, layoutAfter, release, removal}
 use Rattle.layout.specs.Sound.{Sound}
 use Rattle.manager.proofs.Lines.{line-with, lineFound, pages-length}

@@ -9,9 +9,9 @@ use native.Mathlib.Omega.{arith}
 use lib.Dec.{eqb, leb, ltb}
 use lib.ListN.{length}
 use borrow.Author.Tests.{eqb-true, not-false, not-true}
-use Rattle.catalogue.proofs.Fields.{Bytes}
 use Rattle.catalogue.proofs.Roomy.{roomy}
 use Rattle.catalogue.proofs.Versions.{encoded-once}
+use Rattle.catalogue.specs.Encoding.{Bytes}
 use Rattle.catalogue.specs.Reading.{Reading, readCatalogue, sound, unsound}
 use Rattle.catalogue.specs.Version.{versionOf}
 use Rattle.catalogue.specs.declared.Version.{Version}

@@ -8,17 +8,18 @@ use native.Mathlib.Omega.{arith}
 use lib.Dec.{eqb}
 use lib.ListN.{length}
 use borrow.Author.Tests.{eq-eqb, le-ltb}
-use Rattle.catalogue.proofs.Roomy.{Roomy, roomy}
+use Rattle.catalogue.proofs.Roomy.{roomy}
 use Rattle.catalogue.specs.Encoding.{encode}
+use Rattle.catalogue.specs.Roomy.{Roomy}
 use Rattle.catalogue.specs.Version.{OneOf, greatestBlocks, versionFor, versions}
 use Rattle.catalogue.specs.declared.Version.{Version}
 use Rattle.layout.proofs.Finding.{found-find}
 use Rattle.layout.proofs.Removed.{removal-keeps}
-use Rattle.layout.proofs.Swaps.{same}
 use Rattle.layout.specs.Carries.{carries}
 use Rattle.layout.specs.Layout.{File, Found, Layout, fileBlocks, findFile, found, freeBlocks, freshLayout, isFound}
 use Rattle.layout.specs.Layout.{missing}
 use Rattle.layout.specs.Lists.{done, more}
+use Rattle.layout.specs.Moves.{same}
 use Rattle.layout.specs.Removing.{copiesOf, removal}
 use Rattle.layout.specs.Sums.{SoundSums}
 use Rattle.manager.proofs.Agreement.{call-agrees}

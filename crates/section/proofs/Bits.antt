@@ -10,10 +10,11 @@ use lib.Bits.{xor-add-and, xor-block, xor-comm, xor-lt, xor-self, xor-shr, xor-s
 use lib.Dec.{eqb, leb, ltb}
 use lib.Pow.{high, le-ones, pow-mono, pow-pos, pow-lt, shr-lt, split}
 use borrow.Author.Tests.{eq-eqb, le-leb, le-ltb, lt-leb, lt-ltb, ne-eqb}
+use Rattle.section.specs.Nesting.{Placed, after, before, inside}
 use Rattle.section.specs.Sections.{buddyFirst}
 use Rattle.section.proofs.Booleans.{and-swap, false-and}
 use Rattle.section.proofs.Multiples.{below-or-not, multiple-whole}
-use Rattle.section.proofs.Nested.{Placed, after, before, inside, nested-or-apart}
+use Rattle.section.proofs.Nested.{nested-or-apart}
 
 -- the lowest bit flipped
 xor-one-even : (q : ℕ) → q % 2 ≡ 0 → bitXor q 1 ≡ q + 1

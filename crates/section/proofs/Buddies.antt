@@ -7,14 +7,11 @@ use native.Mathlib.Omega.{arith}
 use lib.Arith.{digits-div, mod-mul}
 use lib.Pow.{pow-pos}
 use borrow.Author.Tests.{eq-eqb, ne-eqb}
+use Rattle.section.specs.Nesting.{Halves, lower, upper}
 use Rattle.section.specs.Sections.{Among, Apart, Within, buddyFirst, parentFirst}
-use Rattle.section.proofs.Multiples.{below-or-not, multiple-whole, multiple-gap, multiple-sum, length-double, aligned-lower}
+use Rattle.section.proofs.Multiples.{below-or-not, multiple-whole, multiple-gap, multiple-sum, length-double}
+use Rattle.section.proofs.Multiples.{aligned-lower}
 use Rattle.section.proofs.Nested.{meets-inside}
-
--- a and b start the lower and the upper half, of n blocks each, of what starts at p, in one order or the other
-pub data Halves (n a b p : ℕ) : Type 0 where
-  lower : a ≡ p → b ≡ p + n → Halves n a b p
-  upper : a ≡ p + n → b ≡ p → Halves n a b p
 
 pub parent-aligned : (h a : ℕ) → parentFirst h a % 2 ^ suc h ≡ 0
 unfolding parentFirst

@@ -4,15 +4,10 @@ use mathlib.Core.Logic.{_⊎_, inl, inr, ⊎-elim}
 use Prim.Native.Nat.{ℕ, _+_, _%_, _^_, _<_, _≤_}
 use native.Mathlib.Omega.{arith}
 use lib.Pow.{pow-pos}
+use Rattle.section.specs.Nesting.{Placed, after, before, inside}
 use Rattle.section.specs.Sections.{Apart, Within}
 use Rattle.section.proofs.Multiples.{below-or-not, multiple-gap, multiple-sum, length-multiple}
 use Rattle.section.proofs.Multiples.{aligned-lower}
-
--- where the n blocks from a on lie, against the m from b on
-pub data Placed (a n b m : ℕ) : Type 0 where
-  before : a + n ≤ b → Placed a n b m
-  inside : b ≤ a → a + n ≤ b + m → Placed a n b m
-  after : b + m ≤ a → Placed a n b m
 
 -- a section is inside one that is no lower, or before it, or after it
 pub nested-or-apart : (h i a b : ℕ) → h ≤ i → a % 2 ^ h ≡ 0 → b % 2 ^ i ≡ 0 → Placed a (2 ^ h) b (2 ^ i)

@@ -2,3 +2,4 @@
 pub mod Limits
 pub mod Heights
 pub mod Sections
+pub mod Nesting

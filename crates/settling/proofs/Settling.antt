@@ -13,14 +13,14 @@ use Rattle.free_pieces.specs.Gaps.{PairFits, pairCopies}
 use Rattle.layout.specs.Covering.{Whole}
 use Rattle.settling.specs.Settling.{CanSettle, Settles, mergesOf}
 use Rattle.layout.proofs.LoopTurns.{layout-after-append}
-use Rattle.layout.proofs.Swaps.{same}
 use Rattle.layout.specs.Layout.{Layout}
 use Rattle.layout.specs.Lists.{none}
+use Rattle.layout.specs.Moves.{same}
 use Rattle.layout.specs.Removing.{Merge, copiesOf, due, layoutAfter, merge, mergeAll, nextMerge}
 use Rattle.layout.specs.Removing.{settled}
 use Rattle.manager.specs.Disk.{runCopies}
-use Rattle.section.proofs.Buddies.{upper}
 use Rattle.section.specs.Limits.{blockSize, greatestDisk, heightCount}
+use Rattle.section.specs.Nesting.{upper}
 use Rattle.table.proofs.NextPair.{merge-due, merge-settled}
 use Rattle.table.proofs.ReadyPairs.{Fits, due-fits, merge-countable, merge-ready}
 use Rattle.table.proofs.TableSteps.{table-merged-whole}

@@ -162,7 +162,7 @@ fn one_call(
 ) -> Result<(), Difference> {
     tally.begin(call);
     let answer = twin.call(call, lent, content)?;
-    tally.end(answer);
+    tally.end(call, answer);
     if (answer == Err(3)) != meaning.is_none() {
         return Err(format!("{} though the bytes mean {meaning:?}", told(answer)));
     }

@@ -16,6 +16,8 @@ pub struct History {
     pub twin: Twin,
     pub book: Book,
     pub blocks: usize,
+    /// The calls since the format that the book followed: none with a buffer of a wrong length or a spoilt catalogue.
+    pub followed: u64,
     content: Vec<u8>,
 }
 
@@ -28,7 +30,7 @@ impl History {
         let mut bytes = vec![0; BLOCK];
         numbers.fill(&mut bytes);
         twin.set_catalogue(&bytes);
-        History { twin, book: Book::new(blocks as u64), blocks, content: Vec::new() }
+        History { twin, book: Book::new(blocks as u64), blocks, followed: 0, content: Vec::new() }
     }
 
     /// The right lengths of the buffers.
@@ -47,11 +49,12 @@ impl History {
         };
         tally.begin(call);
         let answer = self.twin.call(call, lent, &self.content)?;
-        tally.end(answer);
+        tally.end(call, answer);
         if !self.is_of_the_list(call, lent) {
             return self.refused_by_length(call, lent, answer).map(|()| answer);
         }
         follow(&mut self.book, call, &self.content, &self.twin, answer)?;
+        self.followed = if *call == Call::Format { 0 } else { self.followed + 1 };
         match (call, answer) {
             (Call::Remove { .. }, Ok(copied)) => tally.count_removal(self.twin.merges().check(f, n, copied)?),
             (Call::Format | Call::Add { .. }, Ok(_)) => {}
@@ -102,7 +105,7 @@ impl History {
         }
         tally.begin(call);
         let answer = self.twin.call(call, self.right(), &self.content)?;
-        tally.end(answer);
+        tally.end(call, answer);
         self.twin.set_catalogue(&before);
         match answer {
             Err(3) => Ok(answer),

@@ -44,7 +44,7 @@ fn greatest_disks(version: Version, tally: &mut Tally) -> Result<(), Difference>
         let [one, other] = &mut cats;
         let proved = event_disk::format(one, &disk).map_err(|refusal| refusal.number());
         let second = model::format(other, &disk);
-        tally.end(proved);
+        tally.end(&Call::Format, proved);
         let right = if length <= most && length.is_multiple_of(BLOCK) { Ok((length / BLOCK) as u64) } else { Err(2) };
         let unchanged = cats[0].iter().all(|&byte| byte == 0x5A);
         if proved != right || second != right || cats[0] != cats[1] || unchanged != right.is_err() {
@@ -66,7 +66,7 @@ fn on_disk(version: Version, blocks: usize, numbers: &mut Numbers, tally: &mut T
     let add = Call::Add { id: HELD, length: content.len() };
     for call in [Call::Format, add] {
         tally.begin(&call);
-        tally.end(twin.call(&call, right, &content)?);
+        tally.end(&call, twin.call(&call, right, &content)?);
     }
     let formatted = twin.catalogue().to_vec();
     for lent in lent_lengths(version, blocks) {
@@ -77,7 +77,7 @@ fn on_disk(version: Version, blocks: usize, numbers: &mut Numbers, tally: &mut T
             let told = |difference| format!("{call} ({lent}): {difference}");
             tally.begin(&call);
             let answer = twin.call(&call, lent, &content).map_err(told)?;
-            tally.end(answer);
+            tally.end(&call, answer);
             if (answer == Err(1)) != Version::of_length(lent.cat).is_none() {
                 return Err(told(format!("{answer:?} by the length of the catalogue")));
             }

@@ -10,6 +10,7 @@ mod history;
 mod large;
 mod layouts;
 mod lengths;
+mod long;
 mod merges;
 mod mixes;
 mod numbers;
@@ -52,11 +53,12 @@ fn run(command: &Command, options: &Options) -> bool {
         }
         Command::StackScene { scene, version, left } => stack::run_scene(scene, *version, *left),
         Command::Random => timed(|| random::run(options.seed, options.calls)),
+        Command::Long => timed(|| long::run(options.seed, options.longest)),
         Command::Small => timed(|| small::run(options.depth)),
         Command::Damage => timed(|| damage::run(options.seed, options.count)),
         Command::Stack => timed(stack::run),
         Command::All => {
-            let parts = [Command::Random, Command::Small, Command::Damage, Command::Stack];
+            let parts = [Command::Random, Command::Long, Command::Small, Command::Damage, Command::Stack];
             let passed = parts.iter().filter(|part| run(part, options)).count();
             println!("histories: {passed} of {} parts without a difference", parts.len());
             passed == parts.len()

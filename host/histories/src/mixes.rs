@@ -21,8 +21,11 @@ pub enum Mix {
     Moves,
     /// Files of as many pieces as their blocks can have, or nearly.
     Pieces,
+    /// More removals than adds, until the disk has no file.
+    Empty,
 }
 
+/// Those of short lists, which begin with no file anyway.
 pub const MIXES: [Mix; 6] = [Mix::Swarm, Mix::Full, Mix::Many, Mix::Any, Mix::Moves, Mix::Pieces];
 
 /// The ids that a history uses: few enough to meet again, with those at the ends.
@@ -49,6 +52,7 @@ pub fn next_call(mix: Mix, ids: &[u16], history: &History, numbers: &mut Numbers
     let adds = match mix {
         Mix::Many if held.len() < MOST_FILES => 80,
         Mix::Full if history.book.free() > 0 => 70,
+        Mix::Empty => 15,
         _ if history.book.free() == 0 => 10,
         _ => 50,
     };
@@ -64,7 +68,7 @@ fn next_add(mix: Mix, ids: &[u16], book: &Book, numbers: &mut Numbers) -> Call {
         Mix::Swarm => numbers.within(1, 4),
         Mix::Many => numbers.within(1, 1 + blocks / MOST_FILES),
         Mix::Full if numbers.one_in(3) => f.max(1),
-        Mix::Full | Mix::Moves => numbers.within(1, 1 + f / 2),
+        Mix::Full | Mix::Moves | Mix::Empty => numbers.within(1, 1 + f / 2),
         Mix::Any => numbers.within(1, blocks + 1),
         Mix::Pieces => many_ones(f.max(1), numbers),
     };

@@ -7,7 +7,7 @@ use crate::history::{History, MOST_WHOLE};
 use crate::large;
 use crate::mixes::{ids, next_call, wild_call, wrong_lengths, Mix, MIXES};
 use crate::numbers::Numbers;
-use crate::tally::Tally;
+use crate::tally::{Event, Tally};
 use crate::twin::Difference;
 
 /// Disks that each run has, if the version has them.
@@ -46,7 +46,11 @@ fn in_version(version: Version, seed: u64, calls: u64, numbers: &mut Numbers) ->
     println!("  after every call all bytes of catalogue, disk and output were compared");
     tally.print_calls();
     tally.print_removals();
-    saw_enough(&tally)
+    let never_seen: Vec<Event> = tally.events().into_iter().filter(|(_, times)| *times == 0).collect();
+    for (what, _) in &never_seen {
+        println!("  never seen: {what}");
+    }
+    never_seen.is_empty()
 }
 
 /// Small disks mostly, on which every call is quick and every kind of layout is met soon.
@@ -59,24 +63,6 @@ fn any_blocks(version: Version, numbers: &mut Numbers) -> usize {
         24..=59 => numbers.within(1, 64),
         _ => numbers.pick(&DISKS[..5]),
     }
-}
-
-/// Each refusal was given, a removal reached its limit, a buddy with free blocks moved, and free buddies were merged
-/// though the two lowest free sections were others.
-fn saw_enough(tally: &Tally) -> bool {
-    let missing: Vec<u8> = (1..=11).filter(|&number| tally.refused(number) == 0).collect();
-    if !missing.is_empty() {
-        println!("  refusals that never were given: {missing:?}");
-    }
-    let seen = [
-        ("a removal that reached its carry bound", tally.at_bound() > 0),
-        ("a buddy with free blocks that moved", tally.spared() > 0),
-        ("free buddies that were not the two lowest", tally.passing() > 0),
-    ];
-    for (what, _) in seen.iter().filter(|(_, seen)| !seen) {
-        println!("  never seen: {what}");
-    }
-    missing.is_empty() && seen.iter().all(|(_, seen)| *seen)
 }
 
 /// One list of calls, from a format. A difference is told with its call.

@@ -5,13 +5,18 @@ use model::Answer;
 use crate::call::{Call, NAMES};
 use crate::merges::Copied;
 
+/// Something that has to be seen, and how often it was.
+pub type Event = (String, u64);
+
 /// Counts of calls, refusals and removals.
 #[derive(Default)]
 pub struct Tally {
     pub calls: u64,
     kinds: [u64; NAMES.len()],
+    answered: [u64; NAMES.len()],
     refusals: [u64; 12],
     removals: u64,
+    copying: u64,
     copied: u64,
     moved: u64,
     most_copied: u64,
@@ -32,15 +37,17 @@ impl Tally {
     }
 
     /// Counts the answer of a call.
-    pub fn end(&mut self, answer: Answer) {
-        if let Err(number) = answer {
-            self.refusals[usize::from(number)] += 1;
+    pub fn end(&mut self, call: &Call, answer: Answer) {
+        match answer {
+            Ok(_) => self.answered[call.number()] += 1,
+            Err(number) => self.refusals[usize::from(number)] += 1,
         }
     }
 
     /// Counts a removal. One that may copy nothing reaches its bound in no way worth counting.
     pub fn count_removal(&mut self, copied: Copied) {
         self.removals += 1;
+        self.copying += u64::from(copied.blocks > 0);
         self.copied += copied.blocks;
         self.moved += copied.moved;
         self.most_copied = self.most_copied.max(copied.blocks);
@@ -59,6 +66,7 @@ impl Tally {
     pub fn add(&mut self, other: &Tally) {
         self.calls += other.calls;
         self.removals += other.removals;
+        self.copying += other.copying;
         self.copied += other.copied;
         self.moved += other.moved;
         self.at_bound += other.at_bound;
@@ -69,10 +77,30 @@ impl Tally {
         self.more += other.more;
         self.most_copied = self.most_copied.max(other.most_copied);
         self.most_at_bound = self.most_at_bound.max(other.most_at_bound);
-        let counts = self.kinds.iter_mut().chain(&mut self.refusals);
-        for (count, more) in counts.zip(other.kinds.iter().chain(&other.refusals)) {
+        let counts = self.kinds.iter_mut().chain(&mut self.answered).chain(&mut self.refusals);
+        for (count, more) in counts.zip(other.kinds.iter().chain(&other.answered).chain(&other.refusals)) {
             *count += more;
         }
+    }
+
+    /// What has to be seen in random lists, and how often it was: each call but format answered, each refusal, removals
+    /// that copied or reached their limit, buddies with free blocks that moved, and free buddies that were merged though
+    /// the two lowest free sections were others.
+    pub fn events(&self) -> Vec<Event> {
+        let calls = NAMES.iter().zip(self.answered).skip(1).map(|(name, times)| (format!("{name} answered"), times));
+        let refusals = (1..=11).map(|number| (format!("refusal {number}"), self.refusals[number]));
+        let removals = [
+            ("a removal that copied", self.copying),
+            ("a removal that reached its carry bound", self.at_bound),
+            ("a free block in a buddy that moved", self.spared()),
+            ("free buddies that were not the two lowest", self.passing),
+        ];
+        calls.chain(refusals).chain(removals.map(|(what, times)| (what.into(), times))).collect()
+    }
+
+    /// How often an add was answered.
+    pub fn adds(&self) -> u64 {
+        self.answered[Call::Add { id: 0, length: 0 }.number()]
     }
 
     /// How often a refusal was given.

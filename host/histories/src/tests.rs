@@ -2,8 +2,9 @@
 
 use model::{sound, write, Answer, Book, Catalogue, Move, Version, BLOCK};
 
-use crate::call::{stamp, Call};
+use crate::call::{stamp, Call, Lent};
 use crate::history::{History, MOST_WHOLE};
+use crate::long::List;
 use crate::numbers::Numbers;
 use crate::tally::Tally;
 use crate::touched::ROUND;
@@ -135,6 +136,34 @@ fn a_wrong_free_block_of_a_move_is_found_at_once() {
         let mut history = half_free();
         history.twin.change_proved(block);
         assert_eq!(step(&mut history, Call::Remove { id: 1 }).is_err(), found, "block {block}");
+    }
+}
+
+/// The length of a list is in calls that the book follows, answered or refused.
+#[test]
+fn a_list_is_as_long_as_the_book_follows() {
+    let mut history = history(Version::SMALL, 5);
+    assert_eq!(history.followed, 1);
+    assert_eq!(step(&mut history, Call::Remove { id: 4 }), Ok(Err(6)));
+    assert_eq!(history.followed, 2);
+    let short = Lent { disk: 4 * BLOCK, ..history.right() };
+    assert_eq!(history.step(&Call::Check, short, 1, &mut Tally::default()), Ok(Err(4)));
+    let spoilt = vec![0; Version::SMALL.catalogue];
+    assert_eq!(history.step_spoilt(&Call::Free, &spoilt, &mut Tally::default()), Ok(Err(3)));
+    assert_eq!((step(&mut history, Call::Free), history.followed), (Ok(Ok(2)), 3));
+    assert_eq!((step(&mut history, Call::Format), history.followed), (Ok(Ok(5)), 0));
+}
+
+/// In one stretch of a long list on 261 blocks everything is seen, in each version; 64 files never are on 16 blocks.
+#[test]
+fn a_long_list_without_an_event_is_told() {
+    for version in Version::ALL {
+        let mut numbers = Numbers::from_seed(2);
+        let mut list = List::new(version, 261, &mut numbers);
+        assert_eq!(list.run(5000, 5000, &mut numbers), Ok(()));
+        assert!((5000..5400).contains(&list.history.followed));
+        let told = List::new(version, 16, &mut numbers).run(5000, 5000, &mut numbers).expect_err("16 files at most");
+        assert_eq!(told, "never seen from call 0 of the list on: refusal 10, the 64th file added");
     }
 }
 

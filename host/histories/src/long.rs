@@ -1,0 +1,164 @@
+//! Lists of many calls on one disk. What a list is rich in changes by turns, so that again and again the disk fills,
+//! empties and has 64 files, and its ids are used anew. After every call all bytes are compared.
+
+use model::{Version, MOST_FILES};
+
+use crate::call::Call;
+use crate::history::History;
+use crate::mixes::{ids, Mix};
+use crate::numbers::Numbers;
+use crate::random::{any_step, step};
+use crate::tally::{Event, Tally};
+use crate::twin::Difference;
+use crate::watch::require;
+
+/// The least length of a list, in calls that the book follows.
+pub const LEAST: u64 = 20_000;
+/// The disks of the lists.
+const DISKS: [(Version, usize); 5] = [
+    (Version::SMALL, LONGEST),
+    (Version::SMALL, 1000),
+    (Version::SMALL, 4096),
+    (Version::LARGE, LONGEST),
+    (Version::LARGE, 1000),
+];
+/// The blocks of the disks that have the longest lists.
+const LONGEST: usize = 261;
+/// In every so many calls of a list each event has to be seen.
+const STRETCH: u64 = 10_000;
+/// Each has its turn, and then each again in another order.
+const TURNS: [Mix; 7] = [Mix::Many, Mix::Moves, Mix::Full, Mix::Swarm, Mix::Any, Mix::Pieces, Mix::Empty];
+
+/// A list of calls as far as it has been run, and what was seen of it.
+pub struct List {
+    pub history: History,
+    ids: Vec<u16>,
+    /// The turns that are left of a round.
+    turns: Vec<Mix>,
+    tally: Tally,
+    /// How often the disk became full, came to have no file, and came to have the most files.
+    full: u64,
+    empty: u64,
+    most_files: u64,
+}
+
+/// Runs the lists; the longest of each version have at least so many calls. False if there was a difference, a list was
+/// shorter, or too little was seen.
+pub fn run(seed: u64, longest: u64) -> bool {
+    println!("long lists, each of calls on one disk: seed {seed}, at least {LEAST} calls, the longest {longest}");
+    let mut numbers = Numbers::from_seed(seed);
+    let mut lists = Vec::new();
+    for (version, blocks) in DISKS {
+        let least = if blocks == LONGEST { longest.max(LEAST) } else { LEAST };
+        let mut list = List::new(version, blocks, &mut numbers);
+        if let Err(reason) = list.run(least, STRETCH, &mut numbers) {
+            let call = list.tally.calls;
+            println!("FAILED: seed {seed}, version {}, {blocks} blocks, call {call}: {reason}", version.number);
+            return false;
+        }
+        lists.push(list);
+    }
+    print(&lists);
+    let lengths = lists.iter().map(|list| list.history.followed);
+    let (shortest, most) = (lengths.clone().min().unwrap_or(0), lengths.max().unwrap_or(0));
+    println!("  after every call all bytes of catalogue, disk and output were compared");
+    println!("  the longest list has {most} calls, the shortest {shortest}");
+    shortest >= LEAST && most >= longest
+}
+
+/// Prints a column for each list.
+fn print(lists: &[List]) {
+    let columns: Vec<Vec<Event>> = lists.iter().map(List::column).collect();
+    for (row, (what, _)) in columns[0].iter().enumerate() {
+        let numbers: String = columns.iter().map(|column| format!("{:9}", column[row].1)).collect();
+        println!("  {what:42}{numbers}");
+    }
+}
+
+impl List {
+    /// A list before its format.
+    pub fn new(version: Version, blocks: usize, numbers: &mut Numbers) -> List {
+        let (history, ids) = (History::new(version, blocks, numbers), ids(numbers));
+        List { history, ids, turns: Vec::new(), tally: Tally::default(), full: 0, empty: 0, most_files: 0 }
+    }
+
+    /// Runs the list until it has so many calls. It is an error if something differs, or if one stretch of so many
+    /// calls is without an event.
+    pub fn run(&mut self, calls: u64, stretch: u64, numbers: &mut Numbers) -> Result<(), Difference> {
+        let right = self.history.right();
+        step(&mut self.history, Call::Format, right, &mut self.tally)?;
+        while self.history.followed < calls {
+            let (start, before) = (self.history.followed, self.events());
+            while self.history.followed < start + stretch {
+                self.turn(numbers)?;
+            }
+            let never = self.never_since(&before);
+            require(never.is_empty(), || format!("never seen from call {start} of the list on: {}", never.join(", ")))?;
+        }
+        Ok(())
+    }
+
+    /// The calls of one turn.
+    fn turn(&mut self, numbers: &mut Numbers) -> Result<(), Difference> {
+        if self.turns.is_empty() {
+            self.turns.extend(TURNS);
+            numbers.shuffle(&mut self.turns);
+        }
+        let mix = self.turns.pop().expect("a round has turns");
+        for _ in 0..numbers.within(150, 400) {
+            let before = self.state();
+            any_step(&mut self.history, mix, &self.ids, numbers, &mut self.tally)?;
+            self.note(before);
+        }
+        Ok(())
+    }
+
+    /// The files and the free blocks.
+    fn state(&self) -> (usize, u64) {
+        (self.history.book.lines().len(), self.history.book.free())
+    }
+
+    /// Notes what became of a disk with so many files and free blocks.
+    fn note(&mut self, (files_before, free_before): (usize, u64)) {
+        let (files, free) = self.state();
+        self.full += u64::from(free == 0 && free_before > 0);
+        self.empty += u64::from(files == 0 && files_before > 0);
+        self.most_files += u64::from(files == MOST_FILES && files_before < MOST_FILES);
+    }
+
+    /// What has to be seen, and how often it was.
+    fn events(&self) -> Vec<Event> {
+        let mut events = self.tally.events();
+        let disk = [
+            ("the last free block taken", self.full),
+            ("the last file removed", self.empty),
+            ("the 64th file added", self.most_files),
+            // At least: each of the ids can be used for the first time once.
+            ("an id used again", self.tally.adds().saturating_sub(self.ids.len() as u64)),
+        ];
+        events.extend(disk.map(|(what, times)| (what.into(), times)));
+        events
+    }
+
+    /// The events that were not seen since they had been seen so often.
+    fn never_since(&self, before: &[Event]) -> Vec<String> {
+        let same = self.events().into_iter().zip(before).filter(|(now, before)| now == *before);
+        same.map(|((what, _), _)| what).collect()
+    }
+
+    /// What is printed of the list.
+    fn column(&self) -> Vec<Event> {
+        let History { twin, blocks, followed, .. } = &self.history;
+        let others = self.tally.calls - followed;
+        let mut column: Vec<Event> = [
+            ("version", u64::from(twin.version.number)),
+            ("blocks", *blocks as u64),
+            ("calls of the list", *followed),
+            ("others: format, lengths, spoilt catalogues", others),
+        ]
+        .map(|(what, number)| (what.into(), number))
+        .into();
+        column.extend(self.events());
+        column
+    }
+}

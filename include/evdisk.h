@@ -6,24 +6,20 @@
  * to the caller, who lends them for the time of a call and keeps their bytes in between. A call uses no memory of its
  * own but the stack, and nothing else: no files, no clock, no state.
  *
- * Every call gives back a number of 0 or more, the answer, or minus the number of a refusal. A refused call changes no
- * byte. Whatever the numbers and the bytes are, a call ends; pointers have to point to as many bytes as the length
- * beside them says, and the buffers of one call must not overlap.
+ * Every call gives back a number of 0 or more, the answer, or a negative one, its refusal: of those below, the first
+ * that holds. A refused call changes no byte. Whatever the numbers and the bytes are, a call ends.
  *
- * The first of these that holds is the refusal:
+ * What a call assumes, which nothing checks:
  *
- *    1  the catalogue buffer is neither 4,096 nor 16,384 bytes long
- *    2  the disk buffer is not 1 to 4,096 blocks of 512 bytes long, or 1 to 1,048,576 with the large catalogue (format
- *       alone)
- *    3  the catalogue is not sound; a version that does not suit the catalogue's length is not
- *    4  the disk buffer is not as long as the catalogue says
- *    5  the id is 0
- *    6  no file has this id
- *    7  a file has this id already
- *    8  the content or output buffer is empty or no multiple of 512 bytes long
- *    9  the pages go past the end of the file
- *   10  there are 64 files already
- *   11  there are fewer free blocks than the content has
+ *    - Each pointer points to as many bytes as the length after it says. With a length of 0 it is not used. Bytes need
+ *      no alignment.
+ *    - The buffers of one call do not overlap, and nobody else changes them, or reads one that is not const, while the
+ *      call lasts. Calls on other buffers may run at the same time.
+ *    - There is stack enough: no call was measured to need more than 56,576 bytes, and `./test` fails if one needs
+ *      256 KiB. That is measured, not proved.
+ *    - The caller is x86-64 code that keeps to the System V calling convention, as C compilers for Linux do: a buffer
+ *      is two arguments, its pointer and its length of 8 bytes, and the result is of 8 bytes with a sign.
+ *    - memcpy and memset, which the archive takes from the C library, do as the C standard says.
  */
 #ifndef EVDISK_H
 #define EVDISK_H
@@ -40,6 +36,22 @@ enum {
   EVDISK_LARGE_MOST_BLOCKS = 1048576  /* the most blocks of a disk with the large catalogue */
 };
 
+/* The refusals. */
+enum {
+  EVDISK_REFUSED_CATALOGUE_LENGTH = -1, /* the catalogue buffer is neither 4,096 nor 16,384 bytes long */
+  EVDISK_REFUSED_NO_DISK = -2,          /* format alone: the disk buffer is not 1 to 4,096 blocks of 512 bytes long, or
+                                         * 1 to 1,048,576 with the large catalogue */
+  EVDISK_REFUSED_NOT_SOUND = -3,        /* the catalogue is not sound, or its version does not suit its length */
+  EVDISK_REFUSED_DISK_LENGTH = -4,      /* the disk buffer is not as long as the catalogue says */
+  EVDISK_REFUSED_ID_ZERO = -5,          /* the id is 0 */
+  EVDISK_REFUSED_ID_MISSING = -6,       /* no file has this id */
+  EVDISK_REFUSED_ID_THERE = -7,         /* a file has this id already */
+  EVDISK_REFUSED_BUFFER_LENGTH = -8,    /* the content or output buffer is empty or no multiple of 512 bytes long */
+  EVDISK_REFUSED_PAST_END = -9,         /* the pages go past the end of the file */
+  EVDISK_REFUSED_FILES_FULL = -10,      /* there are 64 files already */
+  EVDISK_REFUSED_NO_SPACE = -11         /* there are fewer free blocks than the content has */
+};
+
 #ifdef __cplusplus
 extern "C" {
 #endif
@@ -52,9 +64,9 @@ int64_t evdisk_format(uint8_t *cat, size_t cat_length, const uint8_t *disk, size
 int64_t evdisk_add(uint8_t *cat, size_t cat_length, uint8_t *disk, size_t disk_length, uint16_t id,
                    const uint8_t *content, size_t content_length);
 
-/* Removes a file and joins free space; two free halves of one section are joined first, and nothing is copied for them.
- * Answers how many blocks were copied: at most the sum of the place values at which the free blocks plus the file's
- * blocks carry in binary. */
+/* Removes a file and joins free space; two free halves of one section are joined first, and nothing is copied for
+ * them. Answers how many blocks were copied: at most the sum of the place values at which the free blocks plus the
+ * file's blocks carry in binary. */
 int64_t evdisk_remove(uint8_t *cat, size_t cat_length, uint8_t *disk, size_t disk_length, uint16_t id);
 
 /* Fills out with pages of a file, from the page first on; pages count from 0. Answers how many pages out has. */

@@ -44,4 +44,5 @@ pub mod OneBuddyPair
 pub mod PageOrder
 pub mod LayoutCases
 pub mod BuddyCases
+pub mod LowestTwo
 pub mod RemovedRoom

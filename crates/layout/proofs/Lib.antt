@@ -45,4 +45,5 @@ pub mod PageOrder
 pub mod LayoutCases
 pub mod BuddyCases
 pub mod LowestTwo
+pub mod LowerHalves
 pub mod RemovedRoom

@@ -1,0 +1,121 @@
+-- The piece that is taken begins where the free piece begins that it is taken or split from: of every split the lower
+-- half is used, and the upper half joins the free pieces. With splits through all heights in literal numbers. Assumes
+-- nothing.
+use mathlib.Core.List.{List, [], _∷_}
+use mathlib.Core.Path.{_≡_, ap, refl, subst, sym}
+use Prim.Native.Nat.{_+_, _<_, _^_, _≤_, suc, zero, ℕ}
+use native.Mathlib.Omega.{arith}
+use Rattle.layout.proofs.Lists.{each-all, each-and, each-imp, sum-insert}
+use Rattle.layout.proofs.MovedPieces.{section-eta}
+use Rattle.layout.proofs.Taking.{Takes, TakesOf, nothing-height, takeFirst-is, takes-height}
+use Rattle.layout.specs.Adding.{Taken, allocate, allocated, nothing, orElse, splitAt, takeFirst, takePiece, taken}
+use Rattle.layout.specs.Layout.{byFirst, hasHeight}
+use Rattle.layout.specs.Lists.{Each, insertBy, sumOf}
+use Rattle.section.specs.Sections.{section}
+use Rattle.section.specs.declared.Section.{Section}
+
+-- the upper halves of m splits, of the heights from h up, of what begins at x
+pub upperHalves : ℕ → ℕ → ℕ → List Section
+upperHalves zero h x = []
+upperHalves (suc m) h x = section (x + 2 ^ h) h ∷ upperHalves m (suc h) x
+
+-- how s of height h comes out of the free pieces, at most k heights up, and leaves r
+pub record ComesFrom (k h : ℕ) (free : List Section) (s : Section) (r : List Section) : Type 0 where
+  -- the free piece that is taken, the lowest of its height, and the others
+  pub source : Section
+  pub others : List Section
+  pub listed : Takes (hasHeight (source .height .value)) free source others
+  -- it is split as often as it is higher, and no free piece between the two heights is passed over
+  pub splits : ℕ
+  pub height : source .height .value ≡ h + splits
+  pub reach : splits ≤ k
+  pub lowest : Each (λ (a : Section). h ≤ a .height .value → a .height .value < source .height .value → ⊥) free
+  -- the lower half is used each time
+  pub piece : s ≡ section (source .first) h
+  -- and the upper halves join the others
+  pub rest : (w : Section → ℕ) → sumOf w r ≡ sumOf w others + sumOf w (upperHalves splits h (source .first))
+
+abbrev ComesFromOf : ℕ → ℕ → List Section → Taken → Type 0
+ComesFromOf k h free (taken s r) = ComesFrom k h free s r
+ComesFromOf k h free nothing = Unit {0}
+
+from-height : {k h : ℕ} {free : List Section} {s : Section} {r : List Section} → Takes (hasHeight h) free s r
+    → ComesFrom k h free s r
+unfolding upperHalves
+from-height {k} {h} {free} {s} {r} p =
+    let e = takes-height p in
+    record {
+      source = s;
+      others = r;
+      listed = subst (λ z. Takes (hasHeight z) free s r) (sym e) p;
+      splits = 0;
+      height = omega (arith, e);
+      reach = omega arith;
+      lowest = each-all free (λ a x y. omega (arith, e));
+      piece = section-eta s h e;
+      rest = λ w. omega arith;
+    }
+
+from-half : {k h : ℕ} {free : List Section} {s : Section} {r : List Section}
+    → Each (λ (a : Section). a .height .value ≡ h → ⊥) free → ComesFrom k (suc h) free s r
+    → ComesFrom (suc k) h free (section (s .first) h) (insertBy byFirst (section (s .first + 2 ^ h) h) r)
+unfolding upperHalves
+from-half {k} {h} {free} {s} {r} none c = record {
+  source = c .source;
+  others = c .others;
+  listed = c .listed;
+  splits = suc (c .splits);
+  height = omega (arith, c .height);
+  reach = omega (arith, c .reach);
+  lowest = each-imp (λ a q x y. q .1 (omega (arith, q .0)) y) (each-and none (c .lowest));
+  piece = ap (λ x. section x h) start;
+  rest = λ w. omega (
+    arith,
+    sum-insert w byFirst (section (s .first + 2 ^ h) h) r,
+    c .rest w,
+    ap (λ x. w (section (x + 2 ^ h) h)) start,
+  );
+}
+  where
+    start : s .first ≡ c .source .first
+    start = ap (λ (x : Section). x .first) (c .piece)
+
+comes : (k h : ℕ) (free : List Section) → ComesFromOf k h free (takePiece k h free)
+unfolding takePiece
+comes zero h free = go (takeFirst (hasHeight h) free) (takeFirst-is (hasHeight h) free)
+  where
+    go : (p : Taken) → TakesOf (hasHeight h) free p → ComesFromOf 0 h free p
+    go (taken s r) q = from-height q
+    go nothing q = tt
+comes (suc k) h free =
+    go (takeFirst (hasHeight h) free) (takeFirst-is (hasHeight h) free) (takePiece k (suc h) free)
+    (comes k (suc h) free)
+  where
+    go : (p : Taken) → TakesOf (hasHeight h) free p → (t : Taken) → ComesFromOf k (suc h) free t
+        → ComesFromOf (suc k) h free (orElse p (splitAt h t))
+    go (taken s r) q t c = from-height q
+    go nothing q (taken s r) c = from-half (nothing-height q) c
+    go nothing q nothing c = tt
+
+-- whatever piece is taken, of whatever height
+pub piece-comes-from : (k h : ℕ) (free : List Section) {s : Section} {r : List Section}
+    → takePiece k h free ≡ taken s r → ComesFrom k h free s r
+piece-comes-from k h free e = subst (ComesFromOf k h free) e (comes k h free)
+
+-- ---- in literal numbers
+
+-- one block of the greatest disk: a split at each of the 20 heights below the greatest
+pub split-all-heights : allocate 0 21 1 (section 0 20 ∷ [])
+    ≡ allocated (section 0 0 ∷ [])
+    (section 1 0 ∷ section 2 1 ∷ section 4 2 ∷ section 8 3 ∷ section 16 4 ∷ section 32 5 ∷ section 64 6
+    ∷ section 128 7 ∷ section 256 8 ∷ section 512 9 ∷ section 1024 10 ∷ section 2048 11 ∷ section 4096 12
+    ∷ section 8192 13 ∷ section 16384 14 ∷ section 32768 15 ∷ section 65536 16 ∷ section 131072 17
+    ∷ section 262144 18 ∷ section 524288 19 ∷ [])
+unfolding allocate takePiece takeFirst insertBy
+split-all-heights = refl
+
+-- five blocks: four split from the piece at 32, since the one at 0 is too short, and one from that at 0
+pub split-two-pieces : allocate 0 13 5 (section 0 1 ∷ section 32 5 ∷ [])
+    ≡ allocated (section 32 2 ∷ section 0 0 ∷ []) (section 1 0 ∷ section 36 2 ∷ section 40 3 ∷ section 48 4 ∷ [])
+unfolding allocate takePiece takeFirst insertBy
+split-two-pieces = refl

@@ -26,6 +26,7 @@ pub mod MergeHeld
 pub mod MergeSome
 pub mod MergeStep
 pub mod MergeAll
+pub mod Carries
 pub mod CarryBound
 pub mod SoundSums
 pub mod Finding

@@ -7,12 +7,13 @@ use Prim.Native.Nat.{_+_, _<_, _^_, _≤_, suc, zero, ℕ}
 use native.Mathlib.Omega.{arith}
 use Rattle.layout.proofs.Lists.{each-all, each-and, each-imp, sum-insert}
 use Rattle.layout.proofs.MovedPieces.{section-eta}
-use Rattle.layout.proofs.Taking.{Takes, TakesOf, nothing-height, takeFirst-is, takes-height}
+use Rattle.layout.proofs.Taking.{TakesOf, nothing-height, takeFirst-is, takes-height}
 use Rattle.layout.specs.Adding.{Taken, allocate, allocated, nothing, orElse, splitAt, takeFirst, takePiece, taken}
 use Rattle.layout.specs.Layout.{byFirst, hasHeight}
 use Rattle.layout.specs.Lists.{Each, insertBy, sumOf}
 use Rattle.section.specs.Sections.{section}
 use Rattle.section.specs.declared.Section.{Section}
+use Rattle.layout.specs.Choices.{Takes}
 
 -- the upper halves of m splits, of the heights from h up, of what begins at x
 pub upperHalves : ℕ → ℕ → ℕ → List Section

@@ -9,10 +9,9 @@ use native.Mathlib.Nat.{le-of-lt}
 use native.Mathlib.Omega.{arith}
 use lib.Dec.{eqb}
 use borrow.Author.Tests.{eqb-false, eqb-true}
-use Rattle.layout.proofs.BuddyPairs.{BuddiesOf, buddyPair-is}
-use Rattle.layout.proofs.LayoutCases.{copy, file, removed}
+use Rattle.layout.proofs.BuddyPairs.{buddyPair-is}
 use Rattle.layout.proofs.Lists.{each-and, each-imp, pairwise-imp, sum-ge-all}
-use Rattle.layout.proofs.MergePairs.{LowestOf, MergeableOf, lowestTwo-is, lowestTwo-lowest, mergePair-lowest}
+use Rattle.layout.proofs.MergePairs.{lowestTwo-is, lowestTwo-lowest, mergePair-lowest}
 use Rattle.layout.proofs.Occurs.{occurs-none, occurs-one}
 use Rattle.layout.proofs.Taking.{takes-each}
 use Rattle.layout.specs.Adding.{takeFirst}
@@ -23,6 +22,8 @@ use Rattle.layout.specs.Removing.{layoutAfter, lowestTwo, merge, mergeAl
 use Rattle.layout.specs.Removing.{removal, withoutFile}
 use Rattle.section.specs.Sections.{buddyFirst, buddyOf, isInside, movedInto, parentFirst, section}
 use Rattle.section.specs.declared.Section.{Section}
+use Rattle.layout.specs.Choices.{BuddiesOf, LowestOf, MergeableOf}
+use Rattle.layout.specs.Cases.{copy, file, removed}
 
 -- ---- the law
 

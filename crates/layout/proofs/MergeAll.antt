@@ -1,11 +1,11 @@
--- Merging to the end: what it leaves, and how many blocks it copies at most. Assumes nothing.
+-- Merging to the end: what it leaves. How many blocks it copies at most is in `CarryBound`. Assumes nothing.
 use mathlib.Core.List.{List, [], _∷_}
-use mathlib.Core.Path.{_∙_, _≡_, ap, refl, subst, sym}
-use Prim.Native.Nat.{_*_, _+_, _/_, _<_, _^_, _≤_, suc, zero, ℕ}
+use mathlib.Core.Path.{_∙_, _≡_, refl, subst, sym}
+use Prim.Native.Nat.{_+_, _<_, _^_, _≤_, suc, zero, ℕ}
 use native.Mathlib.Decide.{decLt, ℕ-discrete}
-use native.Mathlib.Nat.{mul-suc, not-le-of-lt, zero-add}
+use native.Mathlib.Nat.{not-le-of-lt, zero-add}
 use native.Mathlib.Omega.{arith}
-use lib.ListN.{length, length-append}
+use lib.ListN.{length}
 use Rattle.layout.proofs.Allocating.{height-lt}
 use Rattle.layout.proofs.FilesMoved.{moved-refl, moved-trans}
 use Rattle.layout.proofs.Lists.{each-append, each-imp, each-right}
@@ -13,58 +13,14 @@ use Rattle.layout.proofs.MergePairs.{mergePair-is}
 use Rattle.layout.proofs.MergeStep.{merge-keeps}
 use Rattle.layout.proofs.Splitting.{count-none, ofHeight-other, ofHeight-same}
 use Rattle.layout.proofs.Zipped.{zipped-refl, zipped-trans}
-use Rattle.layout.specs.Carries.{bound}
-use Rattle.layout.specs.Choices.{MergeableOf}
-use Rattle.layout.specs.Covering.{AtMostOne, Whole, countOf}
 use Rattle.layout.specs.Layout.{Layout, filePieces}
-use Rattle.layout.specs.Lists.{Each, done, Zipped}
-use Rattle.layout.specs.Merges.{MergedAll, rest, step, Moved, MergeKeeps, InDisk}
+use Rattle.layout.specs.Lists.{Each, Zipped, done}
 use Rattle.layout.specs.Removing.{Merge, MergePair, Next, copiesOf, due, fewer, layoutAfter, merge, mergeAll}
 use Rattle.layout.specs.Removing.{mergePair, nextMerge, pair, settled}
 use Rattle.section.specs.declared.Section.{Section}
-
-pub bound-cong : (m h r : ℕ) (c d : ℕ → ℕ) → ((j : ℕ) → h ≤ j → c j ≡ d j) → bound m h r c ≡ bound m h r d
-unfolding bound
-bound-cong zero h r c d e = refl
-bound-cong (suc m) h r c d e =
-    ap (λ z. 2 ^ h * ((z + r) / 2) + bound m (suc h) ((z + r) / 2) c) (e h (omega arith))
-    ∙ ap (λ z. 2 ^ h * ((d h + r) / 2) + z) (bound-cong m (suc h) ((d h + r) / 2) c d (λ j p. e j (omega arith)))
-
--- what is carried in counts like what is there
-pub bound-carry : (m h q : ℕ) (c d : ℕ → ℕ) → d h ≡ suc (c h) → ((j : ℕ) → h < j → c j ≡ d j)
-    → bound m h (suc q) c ≡ bound m h q d
-unfolding bound
-bound-carry zero h q c d e f = refl
-bound-carry (suc m) h q c d e f =
-    let s : c h + suc q ≡ d h + q = omega arith in
-    ap (λ z. 2 ^ h * (z / 2) + bound m (suc h) (z / 2) c) s
-    ∙ ap (λ z. 2 ^ h * ((d h + q) / 2) + z) (bound-cong m (suc h) ((d h + q) / 2) c d f)
-
--- a merge at j, wherever that is: the bound falls by the place value
-pub bound-merge : (m h r j : ℕ) (c d : ℕ → ℕ) → h ≤ j → j < h + m → c j ≡ 2 + d j → d (suc j) ≡ suc (c (suc j))
-    → ((i : ℕ) → (i ≡ j → ⊥) → (i ≡ suc j → ⊥) → c i ≡ d i)
-    → bound m h r c ≡ 2 ^ j + bound m h r d
-unfolding bound
-bound-merge zero h r j c d p q e f g = absurd (omega arith)
-bound-merge (suc m) h r j c d p q e f g =
-    go (ℕ-discrete j h) (λ r′ x. bound-merge m (suc h) r′ j c d x (omega arith) e f g)
-  where
-    go : Dec (j ≡ h) → ((r′ : ℕ) → suc h ≤ j → bound m (suc h) r′ c ≡ 2 ^ j + bound m (suc h) r′ d)
-        → 2 ^ h * ((c h + r) / 2) + bound m (suc h) ((c h + r) / 2) c
-        ≡ 2 ^ j + (2 ^ h * ((d h + r) / 2) + bound m (suc h) ((d h + r) / 2) d)
-    go (yes z) ih =
-        let ch : c h ≡ c j = ap c (sym z) in
-        let dh : d h ≡ d j = ap d (sym z) in
-        let s : (c h + r) / 2 ≡ suc ((d h + r) / 2) = omega arith in
-        let f′ : d (suc h) ≡ suc (c (suc h)) = subst (λ y. d (suc y) ≡ suc (c (suc y))) z f in
-        let t : bound m (suc h) (suc ((d h + r) / 2)) c ≡ bound m (suc h) ((d h + r) / 2) d =
-        bound-carry m (suc h) ((d h + r) / 2) c d f′ (λ i y. g i (λ w. omega arith) (λ w. omega arith)) in
-        ap (λ y. 2 ^ h * y + bound m (suc h) y c) s
-        ∙ omega (arith, t, mul-suc (2 ^ h) ((d h + r) / 2), ap (λ y. 2 ^ y) z)
-    go (no z) ih =
-        let ch : c h ≡ d h = g h (λ w. z (sym w)) (λ w. omega arith) in
-        ap (λ y. 2 ^ h * ((y + r) / 2) + bound m (suc h) ((y + r) / 2) c) ch
-        ∙ omega (arith, ih ((d h + r) / 2) (omega arith))
+use Rattle.layout.specs.Merges.{InDisk, MergeKeeps, MergedAll, Moved, rest, step}
+use Rattle.layout.specs.Covering.{AtMostOne, Whole, countOf}
+use Rattle.layout.specs.Choices.{MergeableOf}
 
 abbrev pub NextIs : ℕ → ℕ → Layout → Next → Type 0
 NextIs c K w (due m) = (h : ℕ) × (h < K) × ((j : ℕ) → j < h → countOf j (w .free) ≤ 1) × MergeKeeps c h w m
@@ -149,17 +105,3 @@ module _ {c K : ℕ} where
   merged-files (rest {w = w} wh t) = zipped-refl moved-refl (w .files)
   merged-files (step {m = m} {ms = ms} h lt wh low st s) =
       zipped-trans (moved-trans (m .copies) (copiesOf ms)) (st .files) (merged-files s)
-
-  pub merged-copies : {w : Layout} {ms : List Merge} → MergedAll c K w ms
-      → length (copiesOf ms) ≤ bound K 0 0 (λ j. countOf j (w .free))
-  unfolding copiesOf
-  merged-copies (rest wh t) = omega arith
-  merged-copies (step {w = w} {m = m} {ms = ms} h lt wh low st s) =
-      omega (
-        arith,
-        length-append (m .copies) (copiesOf ms),
-        st .few,
-        merged-copies s,
-        bound-merge K 0 0 h (λ j. countOf j (w .free)) (λ j. countOf j (m .after .free)) (omega arith) (omega arith)
-            (st .less) (st .plus) (λ j x y. sym (st .same j x y)),
-      )

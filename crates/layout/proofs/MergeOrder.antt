@@ -1,5 +1,5 @@
 -- The order of merges: a removal merges at most once at each height, from low to high. Assumes nothing.
-use mathlib.Core.List.{List}
+use mathlib.Core.List.{List, [], _∷_}
 use mathlib.Core.Path.{_≡_, subst, sym}
 use Prim.Native.Nat.{_/_, _<_, _^_, _≤_, suc, ℕ}
 use native.Mathlib.Decide.{decLt, ℕ-discrete}
@@ -7,14 +7,13 @@ use native.Mathlib.Nat.{mod-lt}
 use native.Mathlib.Omega.{arith}
 use Rattle.layout.proofs.Lists.{each-imp}
 use Rattle.layout.proofs.Removed.{release-counts, removal-keeps}
-use Rattle.layout.specs.Carries.{digitSum}
-use Rattle.layout.specs.Covering.{countOf}
 use Rattle.layout.specs.Layout.{File, Layout, fileBlocks, freeBlocks}
 use Rattle.layout.specs.Lists.{Each, Pairwise, done, more, next, none}
-use Rattle.layout.specs.Merges.{mergeHeights, MergedAll, rest, step, MergeKeeps}
-use Rattle.layout.specs.Removals.{Find}
 use Rattle.layout.specs.Removing.{Merge, release}
+use Rattle.layout.specs.Merges.{MergeKeeps, MergedAll, mergeHeights, rest, step}
+use Rattle.layout.specs.Removals.{Find}
 use Rattle.layout.specs.Sums.{SoundSums}
+use Rattle.layout.specs.Covering.{countOf}
 
 -- a merge has one height: the only one that loses free pieces
 pub merge-height-unique : {c h j : ℕ} {w : Layout} {m : Merge} → MergeKeeps c h w m → MergeKeeps c j w m → j ≡ h
@@ -84,7 +83,6 @@ merge-heights-rise s two =
 module _ (K i : ℕ) (l : Layout) (f : File) (r : List File) (g : SoundSums K l) (x : Find i (l .files) f r) where
   -- after the release a height has at most two free pieces: one of the file, and one that was free
   pub released-two : (j : ℕ) → countOf j (release f l .free) ≤ 2
-  unfolding digitSum
   released-two j = omega (
     arith,
     release-counts K i l f r g x j,

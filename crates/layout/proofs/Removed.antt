@@ -5,27 +5,27 @@ use Prim.Native.Nat.{_%_, _+_, _-_, _/_, _<_, _^_, _≤_, ℕ}
 use native.Mathlib.Omega.{arith}
 use lib.ListN.{length, length-map}
 use Rattle.layout.proofs.Allocating.{falling-thin, height-lt}
-use Rattle.layout.proofs.CarryBound.{bound-is-carries}
+use Rattle.layout.proofs.CarryBound.{copies-within-carries}
 use Rattle.layout.proofs.Digits.{counts-are-digits}
 use Rattle.layout.proofs.FilesMoved.{moved-shapes}
 use Rattle.layout.proofs.Finding.{find-each, find-id, find-ids, find-length, find-shapes, find-sum}
 use Rattle.layout.proofs.Finding.{find-without}
 use Rattle.layout.proofs.Lists.{each-append, each-imp, each-insert, each-left, each-right, sum-append}
 use Rattle.layout.proofs.Lists.{sum-insert}
-use Rattle.layout.proofs.MergeAll.{bound-cong, mergeAll-is, merged-blocks, merged-copies}
-use Rattle.layout.proofs.MergeAll.{merged-files, merged-thin, merged-whole}
+use Rattle.layout.proofs.MergeAll.{mergeAll-is, merged-blocks, merged-files, merged-thin}
+use Rattle.layout.proofs.MergeAll.{merged-whole}
 use Rattle.layout.proofs.SoundSums.{falling-of, free-is}
 use Rattle.layout.proofs.Taking.{insert-rising}
-use Rattle.layout.specs.Carries.{carries, digitSum, bound}
-use Rattle.layout.specs.Covering.{Covers, Rising, Whole, countOf}
+use Rattle.layout.specs.Carries.{carries}
 use Rattle.layout.specs.Layout.{File, Layout, OnDisk, allPieces, byFirst, fileBlocks, filePieces, freeBlocks}
-use Rattle.layout.specs.Layout.{holdsBlock, ofHeight}
-use Rattle.layout.specs.Lists.{Each, done, more, sumOf, Zipped}
-use Rattle.layout.specs.Merges.{MergedAll, Moved}
-use Rattle.layout.specs.Removals.{Removes, Find}
-use Rattle.layout.specs.Removing.{copiesOf, insertAll, layoutAfter, release, removal, withoutFile}
-use Rattle.layout.specs.Sums.{RisingIds, ShapeSound, SoundSums, shape}
+use Rattle.layout.specs.Layout.{digit, holdsBlock, ofHeight}
+use Rattle.layout.specs.Lists.{Each, Zipped, done, more, sumOf}
+use Rattle.layout.specs.Removing.{Merge, copiesOf, insertAll, layoutAfter, release, removal, withoutFile}
 use Rattle.section.specs.declared.Section.{Section}
+use Rattle.layout.specs.Removals.{Find, Removes}
+use Rattle.layout.specs.Covering.{Covers, Rising, Whole, countOf}
+use Rattle.layout.specs.Merges.{MergedAll, Moved}
+use Rattle.layout.specs.Sums.{RisingIds, ShapeSound, SoundSums, shape}
 
 sum-insertAll : (w : Section → ℕ) (s free : List Section) → sumOf w (insertAll s free) ≡ sumOf w s + sumOf w free
 unfolding insertAll
@@ -77,8 +77,8 @@ module _ (K i : ℕ) (l : Layout) (f : File) (r : List File) (g : SoundSums K l)
       )
 
   -- the counts of the free sections at first
-  pub release-counts : (j : ℕ) → countOf j (release f l .free) ≡ digitSum (freeBlocks l) (fileBlocks f) j
-  unfolding release digitSum
+  pub release-counts : (j : ℕ) → countOf j (release f l .free) ≡ digit j (freeBlocks l) + digit j (fileBlocks f)
+  unfolding release
   release-counts j =
       omega (
         arith,
@@ -89,12 +89,6 @@ module _ (K i : ℕ) (l : Layout) (f : File) (r : List File) (g : SoundSums K l)
             (λ h. omega (arith, g .thin h)) j,
         ap (λ z. z / 2 ^ j % 2) (free-is K l g),
       )
-
-  pub release-bound : bound K 0 0 (λ j. countOf j (release f l .free)) ≡ carries K (freeBlocks l) (fileBlocks f)
-  release-bound =
-      bound-cong K 0 0 (λ j. countOf j (release f l .free)) (digitSum (freeBlocks l) (fileBlocks f))
-      (λ j p. release-counts j)
-      ∙ bound-is-carries (freeBlocks l) (fileBlocks f) K
 
   pub removal-keeps : Removes K l f r (removal K f l)
   unfolding removal release
@@ -123,7 +117,7 @@ module _ (K i : ℕ) (l : Layout) (f : File) (r : List File) (g : SoundSums K l)
       );
     };
     blocks = bl;
-    limit = omega (arith, merged-copies st, release-bound);
+    limit = copies-within-carries (freeBlocks l) (fileBlocks f) st release-counts;
     files = went;
   }
     where

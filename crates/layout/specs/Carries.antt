@@ -1,7 +1,6 @@
--- The limit on the copies of a removal: the place values at which f + n carries, and the same sum counted by digits.
--- Definitions only.
+-- The limit on the copies of a removal: the place values at which f + n carries. Definitions only.
 use mathlib.Core.Bool.{true, false}
-use Prim.Native.Nat.{ℕ, zero, suc, _+_, _^_, _%_, _*_, _/_}
+use Prim.Native.Nat.{ℕ, zero, suc, _+_, _^_, _%_}
 use lib.Dec.{leb}
 
 -- the sum of the place values 2 ^ h below 2 ^ k at which f + n carries: the remainders by 2 ^ (h + 1) add up to at
@@ -14,12 +13,3 @@ carries (suc h) f n =
       | true ↦ 2 ^ h + carries h f n
       | false ↦ carries h f n
     ]
-
--- the place values of the carries from height h up, for counts c and r carried into h, over m heights
-unfoldable pub bound : ℕ → ℕ → ℕ → (ℕ → ℕ) → ℕ
-bound zero h r c = 0
-bound (suc m) h r c = 2 ^ h * ((c h + r) / 2) + bound m (suc h) ((c h + r) / 2) c
-
--- the binary digits of f and n at the place value 2 ^ h, added
-unfoldable pub digitSum : ℕ → ℕ → ℕ → ℕ
-digitSum f n h = f / 2 ^ h % 2 + n / 2 ^ h % 2

@@ -34,6 +34,7 @@ pub mod Removed
 pub mod Added
 pub mod Fresh
 pub mod Ones
+pub mod FreshPieces
 pub mod Soundness
 pub mod SoundHeights
 pub mod Occurs

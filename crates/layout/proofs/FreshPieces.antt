@@ -1,0 +1,80 @@
+-- The free pieces of a fresh disk are one for each 1 of C, longest first, one after another from block 0 on: the law, and
+-- cases 1 to 3 with other disks in literal numbers. Assumes nothing.
+use mathlib.Core.List.{List, [], _∷_}
+use mathlib.Core.Path.{_∙_, _≡_, ap, refl}
+use Prim.Native.Nat.{_%_, _+_, _<_, _^_, suc, zero, ℕ}
+use native.Mathlib.Nat.{mod-eq-of-lt, zero-mod}
+use native.Mathlib.Omega.{arith}
+use lib.Pow.{pow-lt}
+use Rattle.layout.proofs.Cover.{covers-size}
+use Rattle.layout.proofs.Fresh.{laid}
+use Rattle.layout.proofs.Lists.{pairwise-imp}
+use Rattle.layout.proofs.Ones.{distinct-ones}
+use Rattle.layout.specs.Layout.{Layout, OnePiecePerOne, digit, freshLayout, inRange, piecesFrom}
+use Rattle.layout.specs.Lists.{Pairwise}
+use Rattle.section.specs.Sections.{endOf, lengthOf, section}
+use Rattle.section.specs.declared.Section.{Section}
+
+-- the first begins at x, and each other where the one before it ends
+pub data RunFrom : ℕ → List Section → Type 0 where
+  none : {x : ℕ} → RunFrom x []
+  then : {x : ℕ} {s : Section} {l : List Section} → s .first ≡ x → RunFrom (endOf s) l → RunFrom x (s ∷ l)
+
+pub record FreshPieces (c : ℕ) (l : Layout) : Type 0 where
+  pub blocks : l .blocks ≡ c
+  pub files : l .files ≡ []
+  pub ones : OnePiecePerOne c (l .free)
+  pub longest-first : Pairwise (λ (s t : Section). lengthOf t < lengthOf s) (l .free)
+  pub in-row : RunFrom 0 (l .free)
+
+run : (k n x : ℕ) → RunFrom x (piecesFrom k n x)
+unfolding piecesFrom
+run zero n x = none
+run (suc k) n x = go (digit k n) (run k n x) (run k n (x + 2 ^ k))
+  where
+    go : (d : ℕ) → RunFrom x (piecesFrom k n x) → RunFrom (x + 2 ^ k) (piecesFrom k n (x + 2 ^ k))
+        → RunFrom x
+        (elim d as (λ _. List Section) [
+          | zero ↦ piecesFrom k n x
+          | suc _ ↦ section x k ∷ piecesFrom k n (x + 2 ^ k)
+        ])
+    go zero a b = a
+    go (suc d) a b = then {s = section x k} refl b
+
+pub fresh-pieces : (k c : ℕ) → c < 2 ^ k → FreshPieces c (freshLayout k c)
+unfolding freshLayout
+fresh-pieces k c top =
+    let e : c % 2 ^ k ≡ c = mod-eq-of-lt top in
+    let q = laid c k c 0 (zero-mod (2 ^ k)) (omega arith) in
+    let size = covers-size c (q .disk) (λ y. q .held y ∙ ap (inRange y 0) e) in
+    let falling = pairwise-imp (λ s t p. pow-lt p) (q .falling) in
+    record {
+      blocks = refl;
+      files = refl;
+      ones = distinct-ones c (piecesFrom k c 0) (pairwise-imp (λ s t p z. omega (arith, p)) falling) size;
+      longest-first = falling;
+      in-row = run k c 0;
+    }
+
+-- ---- in literal numbers
+
+abbrev fresh : ℕ → List Section → Layout
+fresh c l = record { blocks = c; files = []; free = l }
+
+-- cases 1 to 3, 32 blocks, which are one section of height 5, and the greatest disks of both versions
+pub fresh-disks :
+    freshLayout 13 1 ∷ freshLayout 13 5 ∷ freshLayout 13 261 ∷ freshLayout 13 32 ∷ freshLayout 13 4096
+    ∷ freshLayout 21 1 ∷ freshLayout 21 5 ∷ freshLayout 21 261 ∷ freshLayout 21 32 ∷ freshLayout 21 1048576 ∷ []
+    ≡ fresh 1 (section 0 0 ∷ [])
+    ∷ fresh 5 (section 0 2 ∷ section 4 0 ∷ [])
+    ∷ fresh 261 (section 0 8 ∷ section 256 2 ∷ section 260 0 ∷ [])
+    ∷ fresh 32 (section 0 5 ∷ [])
+    ∷ fresh 4096 (section 0 12 ∷ [])
+    ∷ fresh 1 (section 0 0 ∷ [])
+    ∷ fresh 5 (section 0 2 ∷ section 4 0 ∷ [])
+    ∷ fresh 261 (section 0 8 ∷ section 256 2 ∷ section 260 0 ∷ [])
+    ∷ fresh 32 (section 0 5 ∷ [])
+    ∷ fresh 1048576 (section 0 20 ∷ [])
+    ∷ []
+unfolding freshLayout piecesFrom
+fresh-disks = refl

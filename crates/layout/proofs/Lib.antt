@@ -37,6 +37,8 @@ pub mod Ones
 pub mod FreshPieces
 pub mod Soundness
 pub mod SoundHeights
+pub mod SoundCases
+pub mod UnsoundCases
 pub mod Occurs
 pub mod CopiesRise
 pub mod MergeOrder

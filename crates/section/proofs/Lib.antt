@@ -6,4 +6,8 @@ pub mod Buddies
 pub mod Moves
 pub mod Lengths
 pub mod Answers
+pub mod Indexes
+pub mod Blocks
+pub mod LiteralLimits
+pub mod SectionCases
 mod Bits

@@ -37,6 +37,10 @@ pub mod Ones
 pub mod FreshPieces
 pub mod Soundness
 pub mod SoundHeights
+pub mod PerOne
+pub mod SoundPieces
+pub mod OnDisk
+pub mod MergeDue
 pub mod SoundCases
 pub mod UnsoundCases
 pub mod Occurs

@@ -5,9 +5,9 @@ use mathlib.Core.Path.{_≡_, refl}
 use Prim.Native.Nat.{_-_, ℕ}
 use lib.ListN.{replicate}
 use Rattle.catalogue.specs.Version.{version1}
-use Rattle.case_table.proofs.CaseRows.{freshDisk, upToSeven}
-use Rattle.case_table.proofs.CaseRun.{afterCalls, computed, expected, performed, startState}
-use Rattle.case_table.proofs.CaseTable.{caseTable}
+use Rattle.case_table.specs.CaseRows.{freshDisk, upToSeven}
+use Rattle.case_table.specs.CaseRun.{afterCalls, computed, expected, performed, startState}
+use Rattle.case_table.specs.CaseTable.{caseTable}
 
 -- every row shows what is expected of it, in version 1
 pub cases-hold : map (computed version1) caseTable ≡ map expected caseTable

@@ -1,62 +1,13 @@
 -- A list of ten mixed calls on a disk of 16 blocks, made by the manager and by the plain book side by side,
 -- computed: the replies of both, and the whole output of both, which is the same at each call. Assumes nothing.
-use mathlib.Core.List.{List, [], _∷_}
+use mathlib.Core.List.{[], _∷_}
 use mathlib.Core.Path.{_≡_, refl}
-use Prim.Native.Nat.{ℕ}
-use lib.ListN.{replicate}
-use Rattle.case_table.proofs.CaseRows.{contentOf, filledBlocks, untouched}
-use Rattle.case_table.proofs.CaseRun.{performed}
-use Rattle.manager.specs.Book.{Book, BookReply, BookStep, answers, anyNumber, bytesOf, contentPages}
-use Rattle.manager.specs.Book.{countFrom, freshBook, inBook, lineWith, pagesInLines, refuses, strikeLine}
-use Rattle.manager.specs.Book.{writeLine}
-use Rattle.manager.specs.Call.{Call, add, breaks, check, free, read, remove}
-use Rattle.manager.specs.Conditions.{Outcome, Reply, answered, refused}
-use Rattle.manager.specs.Outcomes.{formatOutcome}
-use Rattle.section.specs.Limits.{smallCatalogue}
-
--- what manager and book do at a call
-pub record Both : Type 0 where
-  pub manager : Reply
-  pub book : BookReply
-  pub managersOutput : List ℕ
-  pub booksOutput : List ℕ
-
--- a call by the manager beside the same call in the book
-abbrev pub bothOf : Outcome → BookStep → Both
-bothOf x y = record { manager = x .reply; book = y .reply; managersOutput = x .output; booksOutput = y .output }
-
--- the calls one by one, each on what the one before it left
-abbrev pub besideBook : List Call → List ℕ → List ℕ → Book → List Both
-besideBook [] cat d b = []
-besideBook (c ∷ l) cat d b =
-    let x : Outcome = performed c cat d in
-    let y : BookStep = inBook c b in
-    bothOf x y ∷ besideBook l (x .catalogue) (x .disk) (y .book)
-
--- from the catalogue and the disk that format leaves, and a fresh book
-abbrev pub fromFormat : ℕ → List Call → List Both
-fromFormat c calls =
-    let x : Outcome = formatOutcome (replicate smallCatalogue 255) (untouched c) in
-    besideBook calls (x .catalogue) (x .disk) (freshBook c)
-
--- the calls
-abbrev pub tenCalls : List Call
-tenCalls =
-    add 5 (contentOf 5 1)
-    ∷ add 9 (contentOf 9 3)
-    ∷ add 2 (contentOf 2 1)
-    ∷ breaks 9
-    ∷ remove 5
-    ∷ read 9 1 (untouched 2)
-    ∷ read 2 1 (untouched 1)
-    ∷ add 7 (contentOf 7 13)
-    ∷ free
-    ∷ check
-    ∷ []
-
--- replies of the manager and of the book, and the output of both
-abbrev pub bothReply : Reply → BookReply → List ℕ → Both
-bothReply r s o = record { manager = r; book = s; managersOutput = o; booksOutput = o }
+use Rattle.case_table.specs.BesideBook.{bothReply, fromFormat, tenCalls}
+use Rattle.case_table.specs.CaseRows.{filledBlocks, untouched}
+use Rattle.case_table.specs.CaseRun.{performed}
+use Rattle.manager.specs.Book.{answers, anyNumber, bytesOf, contentPages, countFrom, lineWith, pagesInLines, refuses}
+use Rattle.manager.specs.Book.{strikeLine, writeLine}
+use Rattle.manager.specs.Conditions.{answered, refused}
 
 -- the book has no number for breaks and for a removal; the removal copies all pages of id 9, and the read gives its
 -- last two, which lie in two pieces

@@ -6,10 +6,10 @@ use mathlib.Core.Path.{_≡_, refl}
 use Prim.Native.Nat.{_-_, ℕ}
 use lib.ListN.{drop, replicate, take}
 use Rattle.catalogue.specs.Version.{version2}
-use Rattle.case_table.proofs.CaseRows.{contentOf, filledBlocks, freshDisk, upToSeven}
-use Rattle.case_table.proofs.CaseRun.{afterCalls, computed, expected, performed, startState}
+use Rattle.case_table.specs.CaseRows.{contentOf, filledBlocks, freshDisk, upToSeven}
+use Rattle.case_table.specs.CaseRun.{afterCalls, computed, expected, performed, startState}
 use Rattle.case_table.proofs.Cases.{usedInSeven}
-use Rattle.case_table.proofs.CaseTable.{caseTable}
+use Rattle.case_table.specs.CaseTable.{caseTable}
 use Rattle.manager.specs.Call.{Call, add, breaks, check, free, read, remove}
 use Rattle.manager.specs.Conditions.{Reply, refused}
 

@@ -1,9 +1,4 @@
 -- Cases 1 to 11 of document 01 as one table, computed in both versions, and a list of ten calls beside the book.
-pub mod CaseRows
-pub mod MergeRows
-pub mod BuddyRows
-pub mod CaseTable
-pub mod CaseRun
 pub mod Cases
 pub mod LargeCases
 pub mod ExampleList

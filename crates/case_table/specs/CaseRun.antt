@@ -1,6 +1,6 @@
 -- How a row of the table of cases is computed: it starts from a format or from a given layout, makes its calls by
 -- the definitions of `Outcomes`, and shows replies, outputs, copies, the layout that is read afterwards, breaks,
--- pages and blocks. Assumes nothing.
+-- pages and blocks. Definitions only.
 use mathlib.Core.Bool.{_&&_, cond}
 use mathlib.Core.List.{List, [], _++_, _∷_, map}
 use Prim.Native.Nat.{ℕ}
@@ -20,8 +20,8 @@ use Rattle.layout.specs.Layout.{freshLayout, inRange, missing, piecesFrom}
 use Rattle.layout.specs.Lists.{insertBy, sortBy}
 use Rattle.layout.specs.Removing.{Copy, buddyPair, copiesFrom, copiesOf, copyRun, insertAll, layoutAfter, lowestTwo}
 use Rattle.layout.specs.Removing.{merge, mergeAll, mergePair, nextMerge, release, removal, withoutFile}
-use Rattle.case_table.proofs.CaseRows.{FileSeen, Row, Seen, Start, filledBlocks, freshDisk, givenLayout}
-use Rattle.case_table.proofs.CaseRows.{untouched}
+use Rattle.case_table.specs.CaseRows.{FileSeen, Row, Seen, Start, filledBlocks, freshDisk, givenLayout}
+use Rattle.case_table.specs.CaseRows.{untouched}
 use Rattle.manager.specs.Call.{Call, add, breaks, check, free, read, remove}
 use Rattle.manager.specs.Conditions.{Outcome, firstRefusal}
 use Rattle.manager.specs.Disk.{cutPages, joinPages, pageCount, pagesOn, runCopies, writePages}

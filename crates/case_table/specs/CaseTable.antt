@@ -1,17 +1,16 @@
 -- Cases 1 to 11 of document 01, "Small disks by hand", as one table, written out by hand; case 7 with the copies of
 -- document 02, W2. Further rows have reads of parts, calls that are refused, and the removals of `mergeRows` and of
--- `buddyRows`.
--- `cases-hold` of `Cases` computes all rows together. Assumes nothing.
+-- `buddyRows`. `cases-hold` of `Cases` computes all rows together. Definitions only.
 use mathlib.Core.List.{List, [], _++_, _∷_}
 use lib.ListN.{replicate}
-use Rattle.case_table.proofs.CaseRows.{Row, answer, asBefore, contentOf, copied, fileFive, fileNine}
-use Rattle.case_table.proofs.CaseRows.{fileNineMoved, fileSeen, fileSeven, fileTwo, fileWith, freshDisk}
-use Rattle.case_table.proofs.CaseRows.{givenLayout, laidOut, layoutBeforeEleven, layoutEight}
-use Rattle.case_table.proofs.CaseRows.{layoutFive, layoutFour, layoutSeven, layoutSix, pagesRead, pairAt}
-use Rattle.case_table.proofs.CaseRows.{readRefused, refuse, untouched, upToFive, upToFour, upToSeven}
-use Rattle.case_table.proofs.CaseRows.{upToSix}
-use Rattle.case_table.proofs.BuddyRows.{buddyRows}
-use Rattle.case_table.proofs.MergeRows.{mergeRows}
+use Rattle.case_table.specs.CaseRows.{Row, answer, asBefore, contentOf, copied, fileFive, fileNine}
+use Rattle.case_table.specs.CaseRows.{fileNineMoved, fileSeen, fileSeven, fileTwo, fileWith, freshDisk}
+use Rattle.case_table.specs.CaseRows.{givenLayout, laidOut, layoutBeforeEleven, layoutEight}
+use Rattle.case_table.specs.CaseRows.{layoutFive, layoutFour, layoutSeven, layoutSix, pagesRead, pairAt}
+use Rattle.case_table.specs.CaseRows.{readRefused, refuse, untouched, upToFive, upToFour, upToSeven}
+use Rattle.case_table.specs.CaseRows.{upToSix}
+use Rattle.case_table.specs.BuddyRows.{buddyRows}
+use Rattle.case_table.specs.MergeRows.{mergeRows}
 use Rattle.manager.specs.Call.{add, breaks, check, free, read, remove}
 
 -- all rows

@@ -1,9 +1,9 @@
 -- Removals with two free buddies among the sections of a height, as rows of the table of cases, written out by hand
--- (document 02, W7): they are merged first, and nothing is copied for that. Assumes nothing.
+-- (document 02, W7): they are merged first, and nothing is copied for that. Definitions only.
 use mathlib.Core.List.{List, [], _∷_}
 use Rattle.layout.specs.Layout.{Layout}
-use Rattle.case_table.proofs.CaseRows.{Row, answer, contentOf, copied, fileSeen, fileWith, freshDisk}
-use Rattle.case_table.proofs.CaseRows.{givenLayout, laidOut, pagesRead, pairAt, untouched}
+use Rattle.case_table.specs.CaseRows.{Row, answer, contentOf, copied, fileSeen, fileWith, freshDisk}
+use Rattle.case_table.specs.CaseRows.{givenLayout, laidOut, pagesRead, pairAt, untouched}
 use Rattle.manager.specs.Call.{add, read, remove}
 
 -- the layout from which a removal copies more than if the two lowest were merged at each height

@@ -1,9 +1,9 @@
 -- Removals beyond the cases of document 01, as rows of the table of cases, written out by hand: a page that is copied
--- twice, and free pieces in the buddy, whose blocks are not copied (document 02, W2). Assumes nothing.
+-- twice, and free pieces in the buddy, whose blocks are not copied (document 02, W2). Definitions only.
 use mathlib.Core.List.{List, [], _∷_}
 use Rattle.layout.specs.Layout.{Layout}
-use Rattle.case_table.proofs.CaseRows.{Row, answer, copied, fileSeen, fileWith, givenLayout, laidOut, pagesRead}
-use Rattle.case_table.proofs.CaseRows.{pairAt, untouched}
+use Rattle.case_table.specs.CaseRows.{Row, answer, copied, fileSeen, fileWith, givenLayout, laidOut, pagesRead}
+use Rattle.case_table.specs.CaseRows.{pairAt, untouched}
 use Rattle.manager.specs.Call.{read, remove}
 
 -- the layout from which a removal copies a page twice

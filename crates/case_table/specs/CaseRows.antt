@@ -1,5 +1,5 @@
 -- How the rows of the table of cases are written, and what several rows share. A pair is first block and length, as
--- in document 01; a block or a page is written as the byte that it is filled with. Assumes nothing.
+-- in document 01; a block or a page is written as the byte that it is filled with. Definitions only.
 use mathlib.Core.Bool.{cond}
 use mathlib.Core.List.{List, [], _++_, _∷_}
 use Prim.Native.Nat.{_*_, suc, zero, ℕ}

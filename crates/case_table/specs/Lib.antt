@@ -1,0 +1,8 @@
+-- Definitions only: the worked cases of document 01 as one table, written out by hand, and how a row is computed;
+-- and a list of calls beside the book.
+pub mod CaseRows
+pub mod MergeRows
+pub mod BuddyRows
+pub mod CaseTable
+pub mod CaseRun
+pub mod BesideBook

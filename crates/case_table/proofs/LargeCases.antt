@@ -6,47 +6,52 @@ use mathlib.Core.Path.{_≡_, refl}
 use Prim.Native.Nat.{_-_, ℕ}
 use lib.ListN.{drop, replicate, take}
 use Rattle.catalogue.specs.Version.{version2}
-use Rattle.case_table.specs.CaseRows.{contentOf, filledBlocks, freshDisk, upToSeven}
+use Rattle.case_table.specs.CaseBytes.{usedInLargeSeven, usedInSeven}
+use Rattle.case_table.specs.CaseParts.{upToSeven}
+use Rattle.case_table.specs.CaseRows.{Row, contentOf, filledBlocks, freshDisk}
 use Rattle.case_table.specs.CaseRun.{afterCalls, computed, expected, performed, startState}
-use Rattle.case_table.proofs.Cases.{usedInSeven}
+use Rattle.case_table.specs.BuddyRows.{buddyRows}
 use Rattle.case_table.specs.CaseTable.{caseTable}
+use Rattle.case_table.specs.LengthRows.{lengthRows}
+use Rattle.case_table.specs.MergeRows.{mergeRows}
 use Rattle.manager.specs.Call.{Call, add, breaks, check, free, read, remove}
 use Rattle.manager.specs.Conditions.{Reply, refused}
 
--- n rows of the table, from row a on, show what is expected of them in version 2
-abbrev Hold : ℕ → ℕ → Type 0
-Hold a n = map (computed version2) (take n (drop a caseTable)) ≡ map expected (take n (drop a caseTable))
+-- these rows show what is expected of them in version 2
+abbrev Hold : List Row → Type 0
+Hold rows = map (computed version2) rows ≡ map expected rows
 
-pub cases-one-to-three : Hold 0 3
+-- n rows of the table, from row a on
+abbrev rowsFrom : ℕ → ℕ → List Row
+rowsFrom a n = take n (drop a caseTable)
+
+pub cases-one-to-three : Hold (rowsFrom 0 3)
 unfolding performed
 cases-one-to-three = refl
 
-pub case-seven : Hold 6 1
+pub case-seven : Hold (rowsFrom 6 1)
 unfolding performed
 case-seven = refl
 
-pub case-eight : Hold 7 2
+pub case-eight : Hold (rowsFrom 7 2)
 unfolding performed
 case-eight = refl
 
-pub cases-nine-to-eleven : Hold 9 3
+pub cases-nine-to-eleven : Hold (rowsFrom 9 3)
 unfolding performed
 cases-nine-to-eleven = refl
 
--- the used bytes of the catalogue after case 7, written out by hand from document 02
-abbrev pub usedInLargeSeven : List ℕ
-usedInLargeSeven =
-    -- version, C, number of files
-    0 ∷ 2 ∷ 0 ∷ 0 ∷ 0 ∷ 16 ∷ 0 ∷ 2
-    -- id 2, n, its pair
-    ∷ 0 ∷ 2 ∷ 0 ∷ 0 ∷ 0 ∷ 2 ∷ 0 ∷ 0 ∷ 0 ∷ 4 ∷ 0 ∷ 0 ∷ 0 ∷ 2
-    -- id 9, n, its pair
-    ∷ 0 ∷ 9 ∷ 0 ∷ 0 ∷ 0 ∷ 1 ∷ 0 ∷ 0 ∷ 0 ∷ 7 ∷ 0 ∷ 0 ∷ 0 ∷ 1
-    -- the free pairs
-    ∷ 0 ∷ 0 ∷ 0 ∷ 0 ∷ 0 ∷ 0 ∷ 0 ∷ 4
-    ∷ 0 ∷ 0 ∷ 0 ∷ 6 ∷ 0 ∷ 0 ∷ 0 ∷ 1
-    ∷ 0 ∷ 0 ∷ 0 ∷ 8 ∷ 0 ∷ 0 ∷ 0 ∷ 8
-    ∷ []
+pub merges : Hold mergeRows
+unfolding performed
+merges = refl
+
+pub free-buddies : Hold buddyRows
+unfolding performed
+free-buddies = refl
+
+pub literal-lengths : Hold lengthRows
+unfolding performed
+literal-lengths = refl
 
 -- all 16,384 bytes of the catalogue after case 7: the used ones, and zero bytes to the end
 pub case-seven-large-bytes : afterCalls upToSeven (startState version2 (freshDisk 16)) .catalogue

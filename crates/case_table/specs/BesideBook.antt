@@ -9,7 +9,6 @@ use Rattle.manager.specs.Book.{Book, BookReply, BookStep, freshBook, inBook}
 use Rattle.manager.specs.Call.{Call, add, breaks, check, free, read, remove}
 use Rattle.manager.specs.Conditions.{Outcome, Reply}
 use Rattle.manager.specs.Outcomes.{formatOutcome}
-use Rattle.section.specs.Limits.{smallCatalogue}
 
 -- what manager and book do at a call
 pub record Both : Type 0 where
@@ -33,7 +32,7 @@ besideBook (c ∷ l) cat d b =
 -- from the catalogue and the disk that format leaves, and a fresh book
 abbrev pub fromFormat : ℕ → List Call → List Both
 fromFormat c calls =
-    let x : Outcome = formatOutcome (replicate smallCatalogue 255) (untouched c) in
+    let x : Outcome = formatOutcome (replicate 4096 255) (untouched c) in
     besideBook calls (x .catalogue) (x .disk) (freshBook c)
 
 -- the calls

@@ -3,10 +3,10 @@
 -- pages and blocks. Definitions only.
 use mathlib.Core.Bool.{_&&_, cond}
 use mathlib.Core.List.{List, [], _++_, _∷_, map}
-use Prim.Native.Nat.{ℕ}
+use Prim.Native.Nat.{_+_, _/_, suc, zero, ℕ}
 use lib.Count.{ones, onesIn}
 use lib.Dec.{eqb}
-use lib.ListN.{length, replicate}
+use lib.ListN.{drop, length, replicate, take}
 use Rattle.catalogue.specs.Encoding.{bigEndian, encode, entriesBytes, entryBytes, headerBytes, pairBytes}
 use Rattle.catalogue.specs.Encoding.{pairsBytes, usedBytes}
 use Rattle.catalogue.specs.Reading.{Reading, every, fileRead, isSound, judged, pairwise, readCatalogue, readEntries}
@@ -24,10 +24,10 @@ use Rattle.case_table.specs.CaseRows.{FileSeen, Row, Seen, Start, filled
 use Rattle.case_table.specs.CaseRows.{untouched}
 use Rattle.manager.specs.Call.{Call, add, breaks, check, free, read, remove}
 use Rattle.manager.specs.Conditions.{Outcome, firstRefusal}
-use Rattle.manager.specs.Disk.{cutPages, joinPages, pageCount, pagesOn, runCopies, writePages}
+use Rattle.manager.specs.Disk.{cutPages, joinPages, pagesOn, runCopies, writePages}
 use Rattle.manager.specs.Outcomes.{addIn, breaksIn, breaksReply, checkIn, formatIn, formatOutcome, freeIn, perform}
 use Rattle.manager.specs.Outcomes.{readIn, removeIn}
-use Rattle.section.specs.Limits.{blockSize, heightCount}
+use Rattle.section.specs.Limits.{heightCount}
 use Rattle.section.specs.Heights.{heightOf}
 use Rattle.section.specs.Sections.{buddyFirst, isAligned, isInside, isOnDisk, movedInto, parentFirst, sharesBlock}
 
@@ -35,16 +35,21 @@ use Rattle.section.specs.Sections.{buddyFirst, isAligned, isInside, isOnDisk, m
 
 -- x if p is a whole block filled with x; else 256, which is no byte
 abbrev pub ifFilledWith : ℕ → List ℕ → ℕ
-ifFilledWith x p = cond (eqb (length p) blockSize && every (eqb x) p) x 256
+ifFilledWith x p = cond (eqb (length p) 512 && every (eqb x) p) x 256
 
 -- the byte that a block is filled with
 abbrev pub byteOf : List ℕ → ℕ
 byteOf [] = 256
 byteOf (x ∷ p) = ifFilledWith x (x ∷ p)
 
--- the bytes of a buffer's whole blocks, one for each
+-- the first n blocks of a buffer
+abbrev pub firstBlocks : ℕ → List ℕ → List (List ℕ)
+firstBlocks zero bs = []
+firstBlocks (suc n) bs = take 512 bs ∷ firstBlocks n (drop 512 bs)
+
+-- the bytes of a disk's blocks, one for each; a last block that is not whole shows as 256
 abbrev pub bytesOfBlocks : List ℕ → List ℕ
-bytesOfBlocks bs = map byteOf (cutPages (pageCount bs) bs)
+bytesOfBlocks bs = map byteOf (firstBlocks ((length bs + 511) / 512) bs)
 
 -- ---- what is shown
 
@@ -111,7 +116,7 @@ lastCopies check cat cs = cs
 abbrev pub afterCall : Outcome → List Copy → State → State
 afterCall x cs s =
     record {
-      replies = s .replies ++ (record { reply = x .reply; output = bytesOfBlocks (x .output) }) ∷ [];
+      replies = s .replies ++ (record { reply = x .reply; output = x .output }) ∷ [];
       copies = cs;
       catalogue = x .catalogue;
       disk = x .disk;

@@ -3,13 +3,14 @@
 -- `buddyRows`. `cases-hold` of `Cases` computes all rows together. Definitions only.
 use mathlib.Core.List.{List, [], _++_, _∷_}
 use lib.ListN.{replicate}
-use Rattle.case_table.specs.CaseRows.{Row, answer, asBefore, contentOf, copied, fileFive, fileNine}
-use Rattle.case_table.specs.CaseRows.{fileNineMoved, fileSeen, fileSeven, fileTwo, fileWith, freshDisk}
-use Rattle.case_table.specs.CaseRows.{givenLayout, laidOut, layoutBeforeEleven, layoutEight}
-use Rattle.case_table.specs.CaseRows.{layoutFive, layoutFour, layoutSeven, layoutSix, pagesRead, pairAt}
-use Rattle.case_table.specs.CaseRows.{readRefused, refuse, untouched, upToFive, upToFour, upToSeven}
-use Rattle.case_table.specs.CaseRows.{upToSix}
+use Rattle.case_table.specs.CaseParts.{fileFive, fileNine, fileNineMoved, fileSeven, fileTwo}
+use Rattle.case_table.specs.CaseParts.{layoutBeforeEleven, layoutEight, layoutFive, layoutFour, layoutSeven}
+use Rattle.case_table.specs.CaseParts.{layoutSix, upToFive, upToFour, upToSeven, upToSix}
+use Rattle.case_table.specs.CaseRows.{Row, answer, asBefore, contentOf, copied, fileSeen, fileWith, freshDisk}
+use Rattle.case_table.specs.CaseRows.{givenLayout, laidOut, pagesRead, pairAt, readRefused, refuse, untouched}
+use Rattle.case_table.specs.CaseRows.{unwritten}
 use Rattle.case_table.specs.BuddyRows.{buddyRows}
+use Rattle.case_table.specs.LengthRows.{lengthRows}
 use Rattle.case_table.specs.MergeRows.{mergeRows}
 use Rattle.manager.specs.Call.{add, breaks, check, free, read, remove}
 
@@ -159,10 +160,10 @@ caseTable =
       start = freshDisk 16;
       calls =
           upToFour
-          ++ (read 5 2 (untouched 2) ∷ read 5 4 (untouched 1) ∷ read 5 4 [] ∷ read 5 4 (untouched 1 ++ 255 ∷ [])
+          ++ (read 5 2 (untouched 2) ∷ read 5 4 (untouched 1) ∷ read 5 4 [] ∷ read 5 4 (unwritten 513)
           ∷ read 9 0 [] ∷ read 0 0 [] ∷ []);
       replies =
-          answer 16 ∷ answer 3 ∷ readRefused 9 2 ∷ readRefused 9 1 ∷ readRefused 8 0 ∷ readRefused 8 1
+          answer 16 ∷ answer 3 ∷ readRefused 9 1024 ∷ readRefused 9 512 ∷ readRefused 8 0 ∷ readRefused 8 513
           ∷ readRefused 6 0 ∷ readRefused 5 0 ∷ [];
       copies = [];
       layout = layoutFour;
@@ -184,4 +185,4 @@ caseTable =
       files = fileTwo ∷ fileNineMoved ∷ [];
       disk = 80 ∷ 81 ∷ 82 ∷ 144 ∷ 32 ∷ 33 ∷ 255 ∷ 144 ∷ asBefore 8;
     }
-    ∷ mergeRows ++ buddyRows
+    ∷ mergeRows ++ (buddyRows ++ lengthRows)

@@ -1,8 +1,11 @@
 -- Definitions only: the worked cases of document 01 as one table, written out by hand, and how a row is computed;
 -- and a list of calls beside the book.
 pub mod CaseRows
+pub mod CaseParts
+pub mod CaseBytes
 pub mod MergeRows
 pub mod BuddyRows
+pub mod LengthRows
 pub mod CaseTable
 pub mod CaseRun
 pub mod BesideBook

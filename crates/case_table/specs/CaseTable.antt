@@ -1,6 +1,6 @@
 -- Cases 1 to 11 of document 01, "Small disks by hand", as one table, written out by hand; case 7 with the copies of
--- document 02, W2. Further rows have reads of parts, calls that are refused, and the removals of `mergeRows` and of
--- `buddyRows`. `cases-hold` of `Cases` computes all rows together. Definitions only.
+-- document 02, W2. Further rows have reads of parts, calls that are refused, the removals of `mergeRows` and of
+-- `buddyRows`, and the lengths of `lengthRows`. `cases-hold` of `Cases` computes all rows together. Definitions only.
 use mathlib.Core.List.{List, [], _++_, _∷_}
 use lib.ListN.{replicate}
 use Rattle.case_table.specs.CaseParts.{fileFive, fileNine, fileNineMoved, fileSeven, fileTwo}

@@ -1,5 +1,5 @@
 -- Definitions only: the worked cases of document 01 as one table, written out by hand, and how a row is computed;
--- and a list of calls beside the book.
+-- refusals by literal lengths as another; and a list of calls beside the book.
 pub mod CaseRows
 pub mod CaseParts
 pub mod CaseBytes
@@ -9,3 +9,5 @@ pub mod LengthRows
 pub mod CaseTable
 pub mod CaseRun
 pub mod BesideBook
+pub mod RefusalRows
+pub mod RefusalTable

@@ -1,0 +1,155 @@
+-- The refusals of every call by literal lengths, one byte off on both sides, and pairs of refusals that apply together,
+-- of which the lowest number is returned, written out by hand. Definitions only.
+use mathlib.Core.List.{List, [], _++_, _∷_, map}
+use Prim.Native.Nat.{_-_, suc, zero, ℕ}
+use lib.ListN.{length, replicate}
+use Rattle.case_table.specs.CaseBytes.{usedInLargeSeven, usedInSeven}
+use Rattle.case_table.specs.CaseRows.{contentOf, filledBlocks, unwritten}
+use Rattle.case_table.specs.RefusalRows.{Refusal, RefusalRow, formatGives, gives}
+use Rattle.manager.specs.Call.{Call, add, breaks, check, free, read, remove}
+
+-- a catalogue and a disk, and the calls that are refused on them
+abbrev row : List ℕ → List ℕ → List Refusal → RefusalRow
+row cat d l = record { catalogue = cat; disk = d; refusals = l }
+
+-- n bytes that start with the used ones; the rest are zero
+abbrev pub filledUp : ℕ → List ℕ → List ℕ
+filledUp n used = used ++ replicate (n - length used) 0
+
+-- n bytes with a last one that is not zero
+abbrev oneByteMore : ℕ → List ℕ → List ℕ
+oneByteMore n used = filledUp (n - 1) used ++ 1 ∷ []
+
+-- a disk of 16 blocks
+abbrev sixteen : List ℕ
+sixteen = filledBlocks 0 16
+
+-- ---- the calls
+
+-- a call of each kind that is answered after case 7, where id 2 has two pages, id 9 one, and 13 blocks are free
+abbrev plainCalls : List Call
+plainCalls = add 7 (contentOf 7 1) ∷ remove 2 ∷ read 2 0 (unwritten 512) ∷ breaks 2 ∷ free ∷ check ∷ []
+
+-- of those the ones that get the disk
+abbrev diskCalls : List Call
+diskCalls = add 7 (contentOf 7 1) ∷ remove 2 ∷ read 2 0 (unwritten 512) ∷ check ∷ []
+
+-- calls that get the disk, and that are refused with 5 to 11 on the right buffers
+abbrev wrongCalls : List Call
+wrongCalls =
+    add 0 [] ∷ add 2 [] ∷ add 3 (unwritten 511) ∷ add 3 (contentOf 3 14) ∷ remove 0 ∷ remove 3 ∷ read 0 0 []
+    ∷ read 3 0 [] ∷ read 2 0 (unwritten 513) ∷ read 2 2 (unwritten 512) ∷ []
+
+-- all of these give the same number
+abbrev all : ℕ → List Call → List Refusal
+all n l = map (λ c. gives c n) l
+
+-- ---- the rows of a version
+
+-- how long the catalogue is, and the used bytes of three: after case 7, and with 63 and 64 files of one block on 66
+-- blocks
+pub record Catalogues : Type 0 where
+  pub bytes : ℕ
+  pub seven : List ℕ
+  pub oneLess : List ℕ
+  pub full : List ℕ
+
+-- disks that format refuses
+abbrev formatRows : Catalogues → List RefusalRow
+formatRows c =
+    map (λ n. row (filledUp (c .bytes) (c .seven)) (unwritten n) (formatGives 2 ∷ []))
+    (0 ∷ 1 ∷ 511 ∷ 513 ∷ 1023 ∷ 1025 ∷ 8191 ∷ 8193 ∷ [])
+
+-- a catalogue that is not sound, on a right disk and on a wrong one
+abbrev unsoundRows : Catalogues → List RefusalRow
+unsoundRows c =
+    row (oneByteMore (c .bytes) (c .seven)) sixteen (all 3 plainCalls)
+    ∷ row (oneByteMore (c .bytes) (c .seven)) (unwritten 8191) (all 3 wrongCalls ++ all 3 (breaks 0 ∷ check ∷ []))
+    ∷ []
+
+-- disks of other lengths than 16 blocks, with right and with wrong arguments
+abbrev diskRows : Catalogues → List RefusalRow
+diskRows c =
+    map (λ n. row (filledUp (c .bytes) (c .seven)) (unwritten n) (all 4 diskCalls))
+    (0 ∷ 7680 ∷ 8191 ∷ 8193 ∷ 8704 ∷ [])
+    ++ row (filledUp (c .bytes) (c .seven)) (unwritten 8193) (all 4 wrongCalls) ∷ []
+
+-- on the right buffers, the lowest of the refusals that apply
+abbrev argumentRows : Catalogues → List RefusalRow
+argumentRows c =
+    row (filledUp (c .bytes) (c .seven)) sixteen
+    (all 5 (add 0 [] ∷ add 0 (contentOf 3 14) ∷ remove 0 ∷ read 0 0 [] ∷ read 0 9 (unwritten 512) ∷ breaks 0 ∷ [])
+    ++ all 6 (remove 3 ∷ read 3 0 [] ∷ read 3 9 (unwritten 512) ∷ breaks 3 ∷ [])
+    ++ all 7 (add 2 [] ∷ add 9 (unwritten 513) ∷ add 2 (contentOf 3 14) ∷ [])
+    ++ all 8 (add 3 [] ∷ add 3 (contentOf 3 14 ++ 0 ∷ []) ∷ read 2 9 [] ∷ read 2 9 (unwritten 513) ∷ [])
+    ++ all 9 (read 2 2 (unwritten 512) ∷ read 2 1 (unwritten 1024) ∷ read 9 0 (unwritten 1024) ∷ [])
+    ++ all 11 (add 3 (contentOf 3 14) ∷ []))
+    ∷ []
+
+-- 64 files, and 2 free blocks
+abbrev fullRows : Catalogues → List RefusalRow
+fullRows c =
+    row (filledUp (c .bytes) (c .full)) (filledBlocks 0 66)
+    (all 5 (add 0 (contentOf 6 1) ∷ [])
+    ++ all 7 (add 1 (contentOf 6 1) ∷ add 64 (contentOf 6 3) ∷ [])
+    ++ all 8 (add 65 [] ∷ add 65 (unwritten 511) ∷ [])
+    ++ all 10 (add 65 (contentOf 6 1) ∷ add 65 (contentOf 6 3) ∷ []))
+    ∷ row (filledUp (c .bytes) (c .full)) (filledBlocks 0 65) (all 4 (add 65 (contentOf 6 3) ∷ []))
+    ∷ []
+
+-- all rows of a version
+abbrev pub refusalTable : Catalogues → List RefusalRow
+refusalTable c = formatRows c ++ unsoundRows c ++ diskRows c ++ argumentRows c ++ fullRows c
+
+-- ---- the versions
+
+-- the entries of n files of one block: id i + 1 at block i, and so on
+abbrev smallEntries : ℕ → ℕ → List ℕ
+smallEntries i zero = []
+smallEntries i (suc n) = 0 ∷ suc i ∷ 0 ∷ 1 ∷ 0 ∷ i ∷ 0 ∷ 1 ∷ smallEntries (suc i) n
+
+-- the same in the large catalogue
+abbrev largeEntries : ℕ → ℕ → List ℕ
+largeEntries i zero = []
+largeEntries i (suc n) =
+    0 ∷ suc i ∷ 0 ∷ 0 ∷ 0 ∷ 1 ∷ 0 ∷ 0 ∷ 0 ∷ i ∷ 0 ∷ 0 ∷ 0 ∷ 1 ∷ largeEntries (suc i) n
+
+abbrev pub small : Catalogues
+small =
+    record {
+      bytes = 4096;
+      seven = usedInSeven;
+      oneLess = 0 ∷ 1 ∷ 0 ∷ 66 ∷ 0 ∷ 63 ∷ (smallEntries 0 63 ++ 0 ∷ 63 ∷ 0 ∷ 1 ∷ 0 ∷ 64 ∷ 0 ∷ 2 ∷ []);
+      full = 0 ∷ 1 ∷ 0 ∷ 66 ∷ 0 ∷ 64 ∷ (smallEntries 0 64 ++ 0 ∷ 64 ∷ 0 ∷ 2 ∷ []);
+    }
+
+abbrev pub large : Catalogues
+large =
+    record {
+      bytes = 16384;
+      seven = usedInLargeSeven;
+      oneLess =
+          0 ∷ 2 ∷ 0 ∷ 0 ∷ 0 ∷ 66 ∷ 0 ∷ 63
+          ∷ (largeEntries 0 63
+          ++ 0 ∷ 0 ∷ 0 ∷ 63 ∷ 0 ∷ 0 ∷ 0 ∷ 1 ∷ 0 ∷ 0 ∷ 0 ∷ 64 ∷ 0 ∷ 0 ∷ 0 ∷ 2 ∷ []);
+      full =
+          0 ∷ 2 ∷ 0 ∷ 0 ∷ 0 ∷ 66 ∷ 0 ∷ 64 ∷ (largeEntries 0 64 ++ 0 ∷ 0 ∷ 0 ∷ 64 ∷ 0 ∷ 0 ∷ 0 ∷ 2 ∷ []);
+    }
+
+-- ---- catalogues of the length of no version
+
+-- with everything else right, and with everything wrong
+abbrev pub lengthTable : List RefusalRow
+lengthTable =
+    map (λ n. row (filledUp n usedInSeven) sixteen (formatGives 1 ∷ all 1 plainCalls)) (4095 ∷ 4097 ∷ [])
+    ++ map (λ n. row (filledUp n usedInLargeSeven) sixteen (formatGives 1 ∷ all 1 plainCalls)) (16383 ∷ 16385 ∷ [])
+    ++ map (λ n. row (unwritten n) (unwritten 8191) (formatGives 1 ∷ all 1 (wrongCalls ++ breaks 0 ∷ free ∷ check ∷ [])))
+    (0 ∷ 1 ∷ 4095 ∷ 4097 ∷ 16383 ∷ 16385 ∷ [])
+
+-- ---- versions that do not suit the buffer
+
+abbrev pub smallInLarge : RefusalRow
+smallInLarge = row (filledUp 16384 usedInSeven) sixteen (all 3 plainCalls)
+
+abbrev pub largeInSmall : RefusalRow
+largeInSmall = row (filledUp 4096 usedInLargeSeven) sixteen (all 3 plainCalls)

@@ -6,7 +6,7 @@ use Rattle.case_table.specs.CaseRows.{contentOf, filledBlocks}
 use Rattle.case_table.specs.CaseRun.{performed}
 use Rattle.case_table.specs.RefusalRows.{outcomes, refusedAll}
 use Rattle.case_table.specs.RefusalTable.{Catalogues, filledUp, large, largeInSmall, lengthTable}
-use Rattle.case_table.specs.RefusalTable.{refusalTable, small, smallInLarge}
+use Rattle.case_table.specs.RefusalTable.{orderTable, refusalTable, small, smallInLarge}
 use Rattle.manager.specs.Call.{add}
 use Rattle.manager.specs.Conditions.{answered, outcome}
 
@@ -22,6 +22,10 @@ refusals-hold = refl
 pub large-refusals-hold : map outcomes (refusalTable large) ≡ map refusedAll (refusalTable large)
 unfolding performed
 large-refusals-hold = refl
+
+pub order-holds : map outcomes (orderTable small) ≡ map refusedAll (orderTable small)
+unfolding performed
+order-holds = refl
 
 -- a version that does not suit its buffer is not sound
 pub version-one-in-large-buffer : outcomes smallInLarge ≡ refusedAll smallInLarge

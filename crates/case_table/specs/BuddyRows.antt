@@ -1,5 +1,6 @@
 -- Removals with two free buddies among the sections of a height, as rows of the table of cases, written out by hand
--- (document 02, W7): they are merged first, and nothing is copied for that. Definitions only.
+-- (document 02, W7): they are merged first, and nothing is copied for that; and one with three of which no two are buddies,
+-- so that the two lowest are merged. Definitions only.
 use mathlib.Core.List.{List, [], _∷_}
 use Rattle.layout.specs.Layout.{Layout}
 use Rattle.case_table.specs.CaseRows.{Row, answer, contentOf, copied, fileSeen, fileWith, freshDisk}
@@ -20,6 +21,22 @@ abbrev layoutBeforeLowest : Layout
 layoutBeforeLowest =
     laidOut 8 (fileWith 1 (pairAt 2 2 ∷ pairAt 4 1 ∷ []) ∷ fileWith 2 (pairAt 6 2 ∷ []) ∷ [])
     (pairAt 0 2 ∷ pairAt 5 1 ∷ [])
+
+-- the layout in which the two highest are buddies
+abbrev layoutBeforeHighest : Layout
+layoutBeforeHighest =
+    laidOut 8
+    (fileWith 1 (pairAt 6 2 ∷ pairAt 2 1 ∷ []) ∷ fileWith 2 (pairAt 1 1 ∷ []) ∷ fileWith 3 (pairAt 3 1 ∷ []) ∷ [])
+    (pairAt 0 1 ∷ pairAt 4 2 ∷ [])
+
+-- the layout in which no two are buddies
+abbrev layoutBeforeNone : Layout
+layoutBeforeNone =
+    laidOut 12
+    (fileWith 1 (pairAt 8 2 ∷ pairAt 2 1 ∷ []) ∷ fileWith 2 (pairAt 1 1 ∷ []) ∷ fileWith 3 (pairAt 3 1 ∷ [])
+    ∷ fileWith 4 (pairAt 6 2 ∷ []) ∷ fileWith 5 (pairAt 10 2 ∷ [])
+    ∷ [])
+    (pairAt 0 1 ∷ pairAt 4 2 ∷ [])
 
 abbrev pub buddyRows : List Row
 buddyRows =
@@ -63,5 +80,33 @@ buddyRows =
       layout = laidOut 8 (fileWith 2 (pairAt 6 2 ∷ []) ∷ []) (pairAt 0 4 ∷ pairAt 4 2 ∷ []);
       files = fileSeen 2 0 (6 ∷ 7 ∷ []) (6 ∷ 7 ∷ []) ∷ [];
       disk = 0 ∷ 1 ∷ 2 ∷ 3 ∷ 4 ∷ 5 ∷ 6 ∷ 7 ∷ [];
+    }
+    -- after 1 copy (0,2), (4,2) and (6,2) are free, of which the last two are merged
+    ∷ record {
+      start = givenLayout layoutBeforeHighest;
+      calls = remove 1 ∷ [];
+      replies = answer 1 ∷ [];
+      copies = copied 1 2 ∷ [];
+      layout =
+          laidOut 8 (fileWith 2 (pairAt 2 1 ∷ []) ∷ fileWith 3 (pairAt 3 1 ∷ []) ∷ []) (pairAt 0 2 ∷ pairAt 4 4 ∷ []);
+      files = fileSeen 2 0 (2 ∷ []) (1 ∷ []) ∷ fileSeen 3 0 (3 ∷ []) (3 ∷ []) ∷ [];
+      disk = 0 ∷ 1 ∷ 1 ∷ 3 ∷ 4 ∷ 5 ∷ 6 ∷ 7 ∷ [];
+    }
+    -- after 1 copy (0,2), (4,2) and (8,2) are free: the first two are merged, by 2 copies
+    ∷ record {
+      start = givenLayout layoutBeforeNone;
+      calls = remove 1 ∷ [];
+      replies = answer 3 ∷ [];
+      copies = copied 1 2 ∷ copied 2 4 ∷ copied 3 5 ∷ [];
+      layout =
+          laidOut 12
+          (fileWith 2 (pairAt 4 1 ∷ []) ∷ fileWith 3 (pairAt 5 1 ∷ []) ∷ fileWith 4 (pairAt 6 2 ∷ [])
+          ∷ fileWith 5 (pairAt 10 2 ∷ [])
+          ∷ [])
+          (pairAt 0 4 ∷ pairAt 8 2 ∷ []);
+      files =
+          fileSeen 2 0 (4 ∷ []) (1 ∷ []) ∷ fileSeen 3 0 (5 ∷ []) (3 ∷ []) ∷ fileSeen 4 0 (6 ∷ 7 ∷ []) (6 ∷ 7 ∷ [])
+          ∷ fileSeen 5 0 (10 ∷ 11 ∷ []) (10 ∷ 11 ∷ []) ∷ [];
+      disk = 0 ∷ 1 ∷ 1 ∷ 3 ∷ 1 ∷ 3 ∷ 6 ∷ 7 ∷ 8 ∷ 9 ∷ 10 ∷ 11 ∷ [];
     }
     ∷ []

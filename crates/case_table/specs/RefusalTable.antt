@@ -4,7 +4,7 @@ use mathlib.Core.List.{List, [], _++_, _∷_, map}
 use Prim.Native.Nat.{_-_, suc, zero, ℕ}
 use lib.ListN.{length, replicate}
 use Rattle.case_table.specs.CaseBytes.{usedInLargeSeven, usedInSeven}
-use Rattle.case_table.specs.CaseRows.{contentOf, filledBlocks, unwritten}
+use Rattle.case_table.specs.CaseRows.{filledBlocks, unwritten}
 use Rattle.case_table.specs.RefusalRows.{Refusal, RefusalRow, formatGives, gives}
 use Rattle.manager.specs.Call.{Call, add, breaks, check, free, read, remove}
 
@@ -28,16 +28,16 @@ sixteen = filledBlocks 0 16
 
 -- a call of each kind that is answered after case 7, where id 2 has two pages, id 9 one, and 13 blocks are free
 abbrev plainCalls : List Call
-plainCalls = add 7 (contentOf 7 1) ∷ remove 2 ∷ read 2 0 (unwritten 512) ∷ breaks 2 ∷ free ∷ check ∷ []
+plainCalls = add 7 (unwritten 512) ∷ remove 2 ∷ read 2 0 (unwritten 512) ∷ breaks 2 ∷ free ∷ check ∷ []
 
 -- of those the ones that get the disk
 abbrev diskCalls : List Call
-diskCalls = add 7 (contentOf 7 1) ∷ remove 2 ∷ read 2 0 (unwritten 512) ∷ check ∷ []
+diskCalls = add 7 (unwritten 512) ∷ remove 2 ∷ read 2 0 (unwritten 512) ∷ check ∷ []
 
 -- calls that get the disk, and that are refused with 5 to 11 on the right buffers
 abbrev wrongCalls : List Call
 wrongCalls =
-    add 0 [] ∷ add 2 [] ∷ add 3 (unwritten 511) ∷ add 3 (contentOf 3 14) ∷ remove 0 ∷ remove 3 ∷ read 0 0 []
+    add 0 [] ∷ add 2 [] ∷ add 3 (unwritten 511) ∷ add 3 (unwritten 7168) ∷ remove 0 ∷ remove 3 ∷ read 0 0 []
     ∷ read 3 0 [] ∷ read 2 0 (unwritten 513) ∷ read 2 2 (unwritten 512) ∷ []
 
 -- all of these give the same number
@@ -54,52 +54,57 @@ pub record Catalogues : Type 0 where
   pub oneLess : List ℕ
   pub full : List ℕ
 
--- disks that format refuses
+-- disks that format refuses, whatever bytes the catalogue has
 abbrev formatRows : Catalogues → List RefusalRow
 formatRows c =
-    map (λ n. row (filledUp (c .bytes) (c .seven)) (unwritten n) (formatGives 2 ∷ []))
+    map (λ n. row (unwritten (c .bytes)) (unwritten n) (formatGives 2 ∷ []))
     (0 ∷ 1 ∷ 511 ∷ 513 ∷ 1023 ∷ 1025 ∷ 8191 ∷ 8193 ∷ [])
 
--- a catalogue that is not sound, on a right disk and on a wrong one
-abbrev unsoundRows : Catalogues → List RefusalRow
-unsoundRows c =
-    row (oneByteMore (c .bytes) (c .seven)) sixteen (all 3 plainCalls)
-    ∷ row (oneByteMore (c .bytes) (c .seven)) (unwritten 8191) (all 3 wrongCalls ++ all 3 (breaks 0 ∷ check ∷ []))
-    ∷ []
+-- a catalogue that is not sound
+abbrev unsoundRow : Catalogues → RefusalRow
+unsoundRow c = row (oneByteMore (c .bytes) (c .seven)) sixteen (all 3 plainCalls)
 
--- disks of other lengths than 16 blocks, with right and with wrong arguments
-abbrev diskRows : Catalogues → List RefusalRow
-diskRows c =
-    map (λ n. row (filledUp (c .bytes) (c .seven)) (unwritten n) (all 4 diskCalls))
-    (0 ∷ 7680 ∷ 8191 ∷ 8193 ∷ 8704 ∷ [])
-    ++ row (filledUp (c .bytes) (c .seven)) (unwritten 8193) (all 4 wrongCalls) ∷ []
+-- disks of other lengths than 16 blocks
+abbrev diskRows : Catalogues → List ℕ → List RefusalRow
+diskRows c lengths = map (λ n. row (filledUp (c .bytes) (c .seven)) (unwritten n) (all 4 diskCalls)) lengths
 
--- on the right buffers, the lowest of the refusals that apply
-abbrev argumentRows : Catalogues → List RefusalRow
-argumentRows c =
+-- arguments that are refused on the right buffers
+abbrev argumentRow : Catalogues → RefusalRow
+argumentRow c =
     row (filledUp (c .bytes) (c .seven)) sixteen
-    (all 5 (add 0 [] ∷ add 0 (contentOf 3 14) ∷ remove 0 ∷ read 0 0 [] ∷ read 0 9 (unwritten 512) ∷ breaks 0 ∷ [])
-    ++ all 6 (remove 3 ∷ read 3 0 [] ∷ read 3 9 (unwritten 512) ∷ breaks 3 ∷ [])
-    ++ all 7 (add 2 [] ∷ add 9 (unwritten 513) ∷ add 2 (contentOf 3 14) ∷ [])
-    ++ all 8 (add 3 [] ∷ add 3 (contentOf 3 14 ++ 0 ∷ []) ∷ read 2 9 [] ∷ read 2 9 (unwritten 513) ∷ [])
+    (all 5 (add 0 (unwritten 512) ∷ remove 0 ∷ read 0 0 (unwritten 512) ∷ breaks 0 ∷ [])
+    ++ all 6 (remove 3 ∷ read 3 0 (unwritten 512) ∷ breaks 3 ∷ [])
+    ++ all 7 (add 2 (unwritten 512) ∷ [])
+    ++ all 8 (add 3 (unwritten 511) ∷ add 3 (unwritten 513) ∷ read 2 0 (unwritten 511) ∷ read 2 0 (unwritten 513) ∷ [])
     ++ all 9 (read 2 2 (unwritten 512) ∷ read 2 1 (unwritten 1024) ∷ read 9 0 (unwritten 1024) ∷ [])
-    ++ all 11 (add 3 (contentOf 3 14) ∷ []))
-    ∷ []
+    ++ all 11 (add 3 (unwritten 7168) ∷ []))
 
 -- 64 files, and 2 free blocks
 abbrev fullRows : Catalogues → List RefusalRow
 fullRows c =
     row (filledUp (c .bytes) (c .full)) (filledBlocks 0 66)
-    (all 5 (add 0 (contentOf 6 1) ∷ [])
-    ++ all 7 (add 1 (contentOf 6 1) ∷ add 64 (contentOf 6 3) ∷ [])
+    (all 7 (add 64 (unwritten 512) ∷ [])
     ++ all 8 (add 65 [] ∷ add 65 (unwritten 511) ∷ [])
-    ++ all 10 (add 65 (contentOf 6 1) ∷ add 65 (contentOf 6 3) ∷ []))
-    ∷ row (filledUp (c .bytes) (c .full)) (filledBlocks 0 65) (all 4 (add 65 (contentOf 6 3) ∷ []))
+    ++ all 10 (add 65 (unwritten 512) ∷ add 65 (unwritten 1536) ∷ []))
+    ∷ row (filledUp (c .bytes) (c .full)) (filledBlocks 0 65) (all 4 (add 65 (unwritten 512) ∷ []))
     ∷ []
 
--- all rows of a version
+-- the rows that are computed in both versions
 abbrev pub refusalTable : Catalogues → List RefusalRow
-refusalTable c = formatRows c ++ unsoundRows c ++ diskRows c ++ argumentRows c ++ fullRows c
+refusalTable c =
+    unsoundRow c ∷ argumentRow c ∷ (formatRows c ++ diskRows c (8191 ∷ 8193 ∷ []) ++ fullRows c)
+
+-- further disks, and where more than one refusal applies the lowest
+abbrev pub orderTable : Catalogues → List RefusalRow
+orderTable c =
+    row (oneByteMore (c .bytes) (c .seven)) (unwritten 8191) (all 3 (wrongCalls ++ breaks 0 ∷ check ∷ []))
+    ∷ row (filledUp (c .bytes) (c .seven)) (unwritten 8193) (all 4 wrongCalls)
+    ∷ row (filledUp (c .bytes) (c .seven)) sixteen
+    (all 5 (add 0 [] ∷ add 0 (unwritten 7168) ∷ read 0 0 [] ∷ read 0 9 (unwritten 512) ∷ [])
+    ++ all 6 (read 3 0 [] ∷ read 3 9 (unwritten 512) ∷ [])
+    ++ all 7 (add 2 [] ∷ add 9 (unwritten 513) ∷ add 2 (unwritten 7168) ∷ [])
+    ++ all 8 (add 3 [] ∷ add 3 (unwritten 7169) ∷ read 2 9 [] ∷ read 2 9 (unwritten 513) ∷ []))
+    ∷ diskRows c (0 ∷ 7680 ∷ 8704 ∷ [])
 
 -- ---- the versions
 

@@ -20,7 +20,7 @@ returns c =
     made-as (c .kept .ensures)
     (refuse-there (a .args .t) (a .pre .0) (a .args .id) (a .args .content .now) (a .args .disk .now) (a .pre .1 .0)
     (λ z. omega (arith, a .pre .1 .1)) (p .result) (p .ensures)
-    (c .before .if1 .taken))
+    (omega (arith, c .before .if1 .taken)))
 
 kept-requires-2 : tie.Need-kept-requires-2
 kept-requires-2 c κs = search needs
@@ -62,7 +62,7 @@ returns-4 c =
     (c .before .before .before .before .before .if1 .left)
     (c .before .before .before .before .if2 .left)
     (c .before .before .before .if3 .left)
-    (c .before .if4 .taken))
+    (omega (arith, c .before .if4 .taken)))
 
 free-in-requires : tie.Need-free-in-requires
 free-in-requires c κs = search needs
@@ -84,9 +84,9 @@ returns-5 c =
     (c .before .before .before .before .before .before .before .if1 .left)
     (c .before .before .before .before .before .before .if2 .left)
     (c .before .before .before .before .before .if3 .left)
-    (c .before .before .before .if4 .left)
+    (omega (arith, c .before .before .before .if4 .left))
     (n .result) (n .ensures)
-    (c .before .if5 .taken))
+    (omega (arith, c .before .if5 .taken)))
 
 cast-n : tie.Need-cast-n
 cast-n c = search needs
@@ -101,9 +101,9 @@ place-file-requires c κs =
     (c .before .before .before .before .before .before .before .if1 .left)
     (c .before .before .before .before .before .before .if2 .left)
     (c .before .before .before .before .before .if3 .left)
-    (c .before .before .before .if4 .left)
+    (omega (arith, c .before .before .before .if4 .left))
     (n .result) (n .ensures)
-    (c .before .if5 .left)
+    (omega (arith, c .before .if5 .left))
     (omega (arith, a .fits .id .fits))
 
 same-length : tie.Need-same-length

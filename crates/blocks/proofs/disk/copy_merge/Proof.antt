@@ -30,7 +30,7 @@ returns c =
     let a = c .before .before .before .before .before .before .before .args in
     let e = ap (λ (s : Section). s .first) (c .before .before .before .buddy .ensures) in
     copied-none (a .disk .now) _
-    (copies-none (a .p .lower) (a .p .upper) (freeOf (a .p .others)) (sym e ∙ c .if1 .taken))
+    (copies-none (a .p .lower) (a .p .upper) (freeOf (a .p .others)) (omega (arith, e, c .if1 .taken)))
 
 loop-holds : tie.Need-loop-holds Inv-loop μ-loop
 loop-holds c =
@@ -145,7 +145,7 @@ returns-2 c =
     let u = a .p .upper .first in
     subst (λ x. Copied (a .disk .now) (r .last .0) x greatestDisk (l .copied + r .result))
     (ap (λ (s : Section). gapCopies s u (s .first) (freeOf (a .p .others))) (b .ensures)
-    ∙ sym (copies-gaps (a .p .lower) (a .p .upper) (freeOf (a .p .others)) (λ z. i .left (e ∙ z))))
+    ∙ sym (copies-gaps (a .p .lower) (a .p .upper) (freeOf (a .p .others)) (λ z. omega (arith, i .left, e, z))))
     (copying-end _ _ _ _ _ _ _ _ _ (l .inv) (omega (arith, after .loop-test .left)) _
     (ap (λ z. z - l .at) (c .before .before .before .end .ensures)) _ (r .result) (r .ensures .0) (r .ensures .1))
 

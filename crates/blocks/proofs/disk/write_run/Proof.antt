@@ -58,7 +58,9 @@ returns c =
     let b = c .before in
     let a = b .before .before .before .args in
     let v = b .loop .inv in
-    writing-end (a .to) (a .n) (a .page) (a .content .now) (b .loop .disk) (b .loop .i) (c .loop-test .left) ∙ v .2
+    writing-end (a .to) (a .n) (a .page) (a .content .now) (b .loop .disk) (b .loop .i)
+    (omega (arith, c .loop-test .left))
+    ∙ v .2
 
 pub write-run-spec : {M : Type 1} → statement M
 write-run-spec =

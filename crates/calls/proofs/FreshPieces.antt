@@ -9,7 +9,6 @@ use native.Mathlib.Nat.{mod-eq-of-lt, mod-le}
 use native.Mathlib.Omega.{arith}
 use lib.ListN.{length, set, take}
 use lib.Seq.{append-snoc}
-use Rattle.calls.specs.Fresh.{piecesWith}
 use Rattle.layout.proofs.Allocating.{mod-digit}
 use Rattle.layout.specs.Layout.{digit, piecesFrom}
 use Rattle.section.specs.Limits.{greatestDisk, heightCount}
@@ -18,6 +17,10 @@ use Rattle.section.specs.declared.Section.{Section}
 use Rattle.free_pieces.proofs.LaidMore.{pushed}
 use Rattle.piece_lists.specs.Few.{listOf}
 use Rattle.piece_lists.specs.declared.Pieces.{Pieces}
+
+-- the pieces so far, and those for the ones of c below height h, which start where the higher ones end
+unfoldable pub piecesWith : ℕ → ℕ → Pieces → List Section
+piecesWith c h f = listOf f ++ piecesFrom h c (c - c % 2 ^ h)
 
 -- ---- one height
 

@@ -7,7 +7,7 @@ use native.Mathlib.Nat.{pow-suc, pow-zero}
 use native.Mathlib.Omega.{arith}
 use lib.Arith.{mod-mul}
 use lib.ListN.{length}
-use Rattle.catalogue.specs.Encoding.{bigEndian, byteValues, Bytes}
+use Rattle.catalogue.specs.Encoding.{Bytes, bigEndian, byteValues}
 use Rattle.catalogue.specs.Reading.{got, readField, readFrom}
 use Rattle.layout.specs.Lists.{done, more}
 

@@ -12,7 +12,7 @@ use Rattle.catalogue.proofs.Fields.{field-inv}
 use Rattle.catalogue.proofs.Grouping.{entries-cons, entry-fields, pairs-cons}
 use Rattle.catalogue.proofs.Sorting.{firsts-back}
 use Rattle.catalogue.proofs.Tests.{pairwise-pairs}
-use Rattle.catalogue.specs.Encoding.{bigEndian, entriesBytes, entryBytes, pairsBytes, Bytes}
+use Rattle.catalogue.specs.Encoding.{Bytes, bigEndian, entriesBytes, entryBytes, pairsBytes}
 use Rattle.catalogue.specs.Version.{shortField}
 use Rattle.catalogue.specs.Reading.{Read, bad, fileRead, got, pairwise, readEntries, readEntry, readField}
 use Rattle.catalogue.specs.Reading.{readPair, readPairs, sectionRead, then}

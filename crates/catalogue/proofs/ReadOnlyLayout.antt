@@ -11,7 +11,7 @@ use borrow.Author.Tests.{eqb-true}
 use Rattle.catalogue.proofs.Fields.{field-inv}
 use Rattle.catalogue.proofs.Grouping.{used-fields}
 use Rattle.catalogue.proofs.ReadOnly.{entries-inv, got-rest, got-value, pairs-inv, then-inv}
-use Rattle.catalogue.specs.Encoding.{bigEndian, entriesBytes, pairsBytes, usedBytes, Bytes}
+use Rattle.catalogue.specs.Encoding.{Bytes, bigEndian, entriesBytes, pairsBytes, usedBytes}
 use Rattle.catalogue.specs.Version.{shortField}
 use Rattle.catalogue.specs.Reading.{Header, Read, bad, got, readEntries, readField, readHeader, readLayout}
 use Rattle.catalogue.specs.Reading.{readPairs, then}

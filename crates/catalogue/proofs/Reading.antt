@@ -13,7 +13,7 @@ use borrow.Author.Tests.{eqb-true}
 use Rattle.catalogue.proofs.ReadBackLayout.{catalogue-back}
 use Rattle.catalogue.proofs.ReadOnlyLayout.{layout-inv}
 use Rattle.catalogue.proofs.Tests.{every-each, test-sound}
-use Rattle.catalogue.specs.Encoding.{encode, usedBytes, Bytes}
+use Rattle.catalogue.specs.Encoding.{Bytes, encode, usedBytes}
 use Rattle.catalogue.specs.Reading.{Read, Reading, bad, every, got, isSound, judged, readCatalogue}
 use Rattle.catalogue.specs.Reading.{readLayout, sound, unsound}
 use Rattle.catalogue.specs.Roomy.{Roomy}

@@ -7,8 +7,8 @@ use lib.Dec.{eqb}
 use lib.Pow.{pow-mono}
 use native.Mathlib.Omega.{arith}
 use Rattle.catalogue.specs.Roomy.{Roomy, usedMost}
-use Rattle.catalogue.specs.Version.{OneOf, Served, greatestBlocks, here}
-use Rattle.catalogue.specs.Version.{later, version1, version2, versionFor, versions}
+use Rattle.catalogue.specs.Version.{OneOf, Served, greatestBlocks, here, later, version1, version2, versionFor}
+use Rattle.catalogue.specs.Version.{versions}
 use Rattle.catalogue.specs.declared.Version.{Version}
 use Rattle.layout.specs.Lists.{Each, done, more}
 use Rattle.section.specs.Limits.{greatestDisk, greatestHeight}

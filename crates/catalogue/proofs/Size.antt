@@ -9,8 +9,8 @@ use lib.Count.{ones, ones-cat, ones-le, onesIn}
 use lib.ListN.{length, length-append, length-replicate, replicate}
 use lib.Pow.{pow-pos}
 use Rattle.catalogue.proofs.Fields.{bigEndian-bytes, bigEndian-length}
-use Rattle.catalogue.specs.Encoding.{bigEndian, encode, entriesBytes, entryBytes, headerBytes, pairBytes}
-use Rattle.catalogue.specs.Encoding.{pairsBytes, usedBytes, Bytes}
+use Rattle.catalogue.specs.Encoding.{Bytes, bigEndian, encode, entriesBytes, entryBytes, headerBytes, pairBytes}
+use Rattle.catalogue.specs.Encoding.{pairsBytes, usedBytes}
 use Rattle.catalogue.specs.Roomy.{Roomy, usedMost}
 use Rattle.catalogue.specs.Version.{shortField}
 use Rattle.catalogue.specs.declared.Version.{Version}

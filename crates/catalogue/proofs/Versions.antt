@@ -10,7 +10,7 @@ use lib.ListN.{length}
 use Rattle.catalogue.proofs.Reading.{encode-unique, reading-iff}
 use Rattle.catalogue.proofs.Roomy.{roomy, version-of-one}
 use Rattle.catalogue.proofs.Size.{encode-length}
-use Rattle.catalogue.specs.Encoding.{encode, Bytes}
+use Rattle.catalogue.specs.Encoding.{Bytes, encode}
 use Rattle.catalogue.specs.Reading.{isSound, readCatalogue, sound}
 use Rattle.catalogue.specs.Roomy.{Roomy}
 use Rattle.catalogue.specs.Version.{OneOf, Served, greatestBlocks, versionFor, versionOf, versions}

@@ -1,7 +1,7 @@
 -- The layout of case 7 of document 01. Definitions only.
 use mathlib.Core.List.{[], _∷_}
-use Rattle.layout.specs.Layout.{Layout}
 use Rattle.section.specs.Sections.{section}
+use Rattle.layout.specs.Layout.{Layout}
 
 -- id 2 at (4,2), id 9 at (7,1), free (0,4) (6,1) (8,8)
 abbrev pub caseSeven : Layout

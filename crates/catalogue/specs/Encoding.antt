@@ -1,10 +1,10 @@
 -- The bytes of a catalogue, from a layout: document 01, "The catalogue". Definitions only.
 use mathlib.Core.List.{List, [], _∷_, _++_}
-use Prim.Native.Nat.{ℕ, zero, suc, _-_, _^_, _/_, _%_, _<_}
+use Prim.Native.Nat.{_%_, _-_, _/_, _<_, _^_, suc, zero, ℕ}
 use lib.ListN.{length, replicate}
 use Rattle.section.specs.declared.Section.{Section}
 use Rattle.section.specs.Sections.{lengthOf}
-use Rattle.layout.specs.Lists.{sortBy, Each}
+use Rattle.layout.specs.Lists.{Each, sortBy}
 use Rattle.layout.specs.Layout.{File, Layout, fileBlocks, byFirst}
 use Rattle.catalogue.specs.Version.{shortField}
 use Rattle.catalogue.specs.declared.Version.{Version}

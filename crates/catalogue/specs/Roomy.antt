@@ -2,10 +2,10 @@
 -- Definitions only.
 use mathlib.Core.Path.{_≡_}
 use Prim.Native.Nat.{_*_, _+_, _-_, _<_, _^_, _≤_, ℕ}
+use Rattle.section.specs.Limits.{mostFiles}
 use Rattle.catalogue.specs.Encoding.{byteValues}
 use Rattle.catalogue.specs.Version.{Served, greatestBlocks, headerSize, shortField, versionFor}
 use Rattle.catalogue.specs.declared.Version.{Version}
-use Rattle.section.specs.Limits.{mostFiles}
 
 -- the most bytes that a catalogue uses: each list of pairs has at most one fewer than there are heights
 abbrev pub usedMost : Version → ℕ

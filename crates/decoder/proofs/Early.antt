@@ -19,7 +19,7 @@ use Rattle.layout.proofs.SoundSums.{each-files}
 use Rattle.layout.proofs.Soundness.{free-few}
 use Rattle.decoder.proofs.Runs.{pairs-count}
 use Rattle.piece_lists.specs.Few.{piecePlaces}
-use Rattle.decoder.specs.Entries.{acceptable, allAccepted}
+use Rattle.decoder.specs.Entries.{acceptable}
 use Rattle.layout.proofs.Lists.{each-and, each-imp, each-left}
 use Rattle.layout.specs.Layout.{File, Layout, allPieces, fileBlocks, filePieces}
 use Rattle.layout.specs.Lists.{Each, Pairwise, more, next, none, sumOf}
@@ -28,6 +28,11 @@ use Rattle.section.proofs.Lengths.{pow-lt-inv}
 use Rattle.section.specs.Limits.{mostFiles, heightCount}
 use Rattle.section.specs.Sections.{lengthOf, sharesBlock}
 use Rattle.section.specs.declared.Section.{Section}
+
+-- files of which one cannot be in a sound layout are not read on
+unfoldable pub allAccepted : Read (List File) → Read (List File)
+allAccepted (got l r) = elim (every acceptable l) as (λ _. Read (List File)) [ true ↦ got l r | false ↦ bad ]
+allAccepted bad = bad
 
 -- pieces of falling length, with heights below k, are at most k
 falling-few : (k : ℕ) {l : List Section} → Pairwise (λ (s t : Section). lengthOf t < lengthOf s) l

@@ -16,7 +16,6 @@ use Rattle.decoder.proofs.Files.{file-many, file-parts, file-read, file
 use Rattle.decoder.proofs.Runs.{pairs-bad, pairs-count, pairs-got}
 use Rattle.decoder.specs.Entries.{EntryAt, NoFile, accepted, entryIn, isFile}
 use Rattle.decoder.specs.Fields.{FieldAt, PairsAt}
-use Rattle.section.specs.Nesting.{inside}
 use Rattle.soundness.specs.Order.{inOrder}
 use Rattle.decoder.specs.Pieces.{Sorts}
 use Rattle.decoder.specs.declared.EntryRead.{EntryRead}

@@ -8,11 +8,11 @@ use native.Mathlib.Omega.{arith}
 use lib.ListN.{drop, length, length-drop, set, take}
 use lib.Seq.{drop-drop, take-all}
 use Rattle.catalogue.specs.Reading.{Read, bad, every, got, readEntries, readEntry, then}
+use Rattle.decoder.proofs.Early.{allAccepted}
 use Rattle.decoder.proofs.Entering.{entry-bad, entry-got}
-use Rattle.decoder.proofs.Runs.{after-more, after-none}
+use Rattle.decoder.proofs.Runs.{after-more, after-none, readAfter}
 use Rattle.soundness.proofs.Joined.{filesTo, pushed}
-use Rattle.decoder.specs.Entries.{EntryAt, acceptable, accepted, allAccepted, entryIn}
-use Rattle.decoder.specs.Fields.{readAfter}
+use Rattle.decoder.specs.Entries.{EntryAt, acceptable, accepted, entryIn}
 use Rattle.decoder.specs.declared.EntryRead.{EntryRead}
 use Rattle.layout.proofs.Lists.{map-append, sum-append}
 use Rattle.layout.specs.Layout.{File, fileBlocks}

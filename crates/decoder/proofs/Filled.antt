@@ -6,10 +6,11 @@ use Prim.Native.Nat.{_*_, _+_, _-_, _<_, _≤_, ℕ}
 use native.Mathlib.Omega.{arith}
 use lib.ListN.{drop, length, length-set, set, take}
 use Rattle.catalogue.specs.Reading.{bad, got}
+use Rattle.decoder.proofs.Early.{allAccepted}
 use Rattle.decoder.proofs.EntryRuns.{EntriesLeft, FilesLeft, entry-inside, files-bad, files-end, files-more}
 use Rattle.decoder.proofs.EntryRuns.{files-start, files-sum}
 use Rattle.soundness.proofs.Joined.{filesTo}
-use Rattle.decoder.specs.Entries.{EntryAt, allAccepted}
+use Rattle.decoder.specs.Entries.{EntryAt}
 use Rattle.catalogue.specs.Version.{headerSize}
 use Rattle.piece_lists.specs.Few.{piecePlaces}
 use Rattle.decoder.specs.declared.EntryRead.{EntryRead}
@@ -17,7 +18,6 @@ use Rattle.piece_lists.proofs.EachItem.{each-set}
 use Rattle.layout.specs.Layout.{fileBlocks}
 use Rattle.layout.specs.Lists.{Each, sumOf}
 use Rattle.section.specs.Limits.{greatestDisk, mostFiles}
-use Rattle.section.specs.Nesting.{inside}
 use Rattle.table.specs.Tables.{InPlaces}
 use Rattle.table.specs.declared.Entry.{Entry}
 

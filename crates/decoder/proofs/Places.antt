@@ -25,7 +25,6 @@ use Rattle.decoder.specs.declared.PairRead.{PairRead}
 use Rattle.section.proofs.Lengths.{length-greatest, length-of-height}
 use Rattle.section.specs.Heights.{heightOf}
 use Rattle.section.specs.Limits.{greatestDisk, greatestHeight}
-use Rattle.section.specs.Nesting.{inside}
 use Rattle.section.specs.Sections.{lengthOf}
 use Rattle.section.specs.declared.Height.{Height}
 use Rattle.section.specs.declared.Measured.the-variants as Measured·

@@ -13,16 +13,19 @@ use Rattle.catalogue.proofs.ReadOnly.{got-value, then-inv}
 use Rattle.catalogue.specs.Reading.{Read, bad, got, readPair, readPairs, then}
 use Rattle.decoder.proofs.Places.{pair-bad, pair-got}
 use Rattle.soundness.proofs.Joined.{pushed}
-use Rattle.decoder.specs.Fields.{PairAt, PairsAt, pairsIn, readAfter}
+use Rattle.decoder.specs.Fields.{PairAt, PairsAt, pairsIn}
 use Rattle.decoder.specs.declared.PairRead.{PairRead}
 use Rattle.decoder.specs.declared.PairsRead.{PairsRead}
 use Rattle.layout.proofs.Lists.{sum-append}
 use Rattle.layout.specs.Layout.{blockCount}
 use Rattle.layout.specs.Lists.{sumOf}
 use Rattle.section.specs.Limits.{greatestDisk}
-use Rattle.section.specs.Nesting.{inside}
 use Rattle.section.specs.declared.Section.{Section}
 use Rattle.piece_lists.specs.Few.{listOf, piecePlaces}
+
+-- what is read after the elements of acc
+abbrev pub readAfter : {A : Type 0} → List A → Read (List A) → Read (List A)
+readAfter acc x = then x λ l r. got (acc ++ l) r
 
 pub sum-pushed {ℓ} : {A : Type ℓ} (w : A → ℕ) (p : List A) (m : ℕ) (a : A) → m < length p
     → sumOf w (take (m + 1) (set p m a)) ≡ sumOf w (take m p) + w a

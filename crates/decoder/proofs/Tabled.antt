@@ -10,14 +10,13 @@ use lib.Seq.{length-take-le}
 use Rattle.catalogue.specs.Reading.{got, readCatalogue, readPairs, unsound}
 use Rattle.catalogue.specs.Version.{Served, headerSize}
 use Rattle.catalogue.specs.declared.Version.{Version}
+use Rattle.decoder.proofs.Early.{allAccepted}
 use Rattle.decoder.proofs.EntryRuns.{EntriesLeft}
 use Rattle.decoder.proofs.Filled.{FilesAt, filled-end, filled-sum}
-use Rattle.section.specs.Nesting.{inside}
 use Rattle.soundness.proofs.Joined.{filesTo}
 use Rattle.soundness.proofs.Points.{false-true}
 use Rattle.decoder.proofs.Runs.{pairs-bad, pairs-got}
 use Rattle.decoder.proofs.Whole.{bad-free, got-layout, got-sound, many-free-pairs}
-use Rattle.decoder.specs.Entries.{allAccepted}
 use Rattle.decoder.specs.Fields.{PairsAt, pairsIn}
 use Rattle.soundness.specs.Counts.{Exact}
 use Rattle.decoder.specs.Loading.{HeaderAt, TableAt}

@@ -12,9 +12,8 @@ use Rattle.catalogue.specs.Reading.{Header, Read, bad, every, got, judged, read
 use Rattle.catalogue.specs.Reading.{readLayout, readPairs, soundFile, then, unsound}
 use Rattle.catalogue.specs.Version.{Served, greatestBlocks, shortField, headerSize}
 use Rattle.catalogue.specs.declared.Version.{Version}
-use Rattle.decoder.proofs.Early.{acceptable-sound, all-read, large-disk, many-free, restOf, stopped}
+use Rattle.decoder.proofs.Early.{acceptable-sound, all-read, allAccepted, large-disk, many-free, restOf, stopped}
 use Rattle.decoder.proofs.EntryRuns.{EntriesLeft}
-use Rattle.decoder.specs.Entries.{allAccepted}
 use Rattle.decoder.specs.Fields.{FieldAt}
 use Rattle.decoder.specs.Loading.{HeaderAt}
 use Rattle.section.specs.Limits.{greatestDisk, mostFiles}

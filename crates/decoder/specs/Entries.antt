@@ -10,7 +10,7 @@ use Rattle.section.specs.Limits.{greatestDisk}
 use Rattle.layout.specs.Layout.{File, blockCount, fileBlocks}
 use Rattle.piece_lists.specs.Few.{piecePlaces}
 use Rattle.table.specs.Tables.{fileOf, piecesIn}
-use Rattle.catalogue.specs.Reading.{Read, got, bad, every, soundFile, readEntry}
+use Rattle.catalogue.specs.Reading.{Read, bad, got, readEntry, soundFile}
 use Rattle.soundness.specs.Order.{inOrder}
 use Rattle.decoder.specs.declared.EntryRead.{EntryRead}
 
@@ -22,10 +22,6 @@ acceptable f = leb (length (f .pieces)) piecePlaces && soundFile f
 unfoldable pub accepted : Read File → Read File
 accepted (got f r) = elim (acceptable f) as (λ _. Read File) [ true ↦ got f r | false ↦ bad ]
 accepted bad = bad
-
-unfoldable pub allAccepted : Read (List File) → Read (List File)
-allAccepted (got l r) = elim (every acceptable l) as (λ _. Read (List File)) [ true ↦ got l r | false ↦ bad ]
-allAccepted bad = bad
 
 -- the pairs of a list make a file of id i and n blocks
 unfoldable pub isFile : ℕ → ℕ → List Section → Bool

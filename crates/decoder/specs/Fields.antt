@@ -1,7 +1,7 @@
 -- What reading fields and pairs at a place of the catalogue promises. Definitions only.
 use mathlib.Core.Path.{_≡_}
 use mathlib.Core.Bool.{true, false}
-use mathlib.Core.List.{List, _++_}
+use mathlib.Core.List.{List}
 use Prim.Native.Nat.{ℕ, _+_, _*_, _^_, _<_, _≤_}
 use lib.ListN.{length, drop}
 use Rattle.section.specs.declared.Section.{Section}
@@ -11,7 +11,7 @@ use Rattle.layout.specs.Layout.{blockCount}
 use Rattle.piece_lists.specs.Few.{listOf, piecePlaces}
 use Rattle.piece.specs.Packed.{sectionIn}
 use Rattle.catalogue.specs.Encoding.{byteValues}
-use Rattle.catalogue.specs.Reading.{Read, got, bad, then, readField, readPair, readPairs}
+use Rattle.catalogue.specs.Reading.{Read, bad, got, readField, readPair, readPairs}
 use Rattle.decoder.specs.declared.PairRead.{PairRead}
 use Rattle.decoder.specs.declared.PairsRead.{PairsRead}
 
@@ -33,10 +33,6 @@ pub record PairAt (w : ℕ) (s : List ℕ) (at : ℕ) (p : PairRead) : Type 0 wh
 
 unfoldable pub pairsIn : PairsRead → List ℕ → Read (List Section)
 pairsIn p r = elim (p .ok) as (λ _. Read (List Section)) [ true ↦ got (listOf (p .list)) r | false ↦ bad ]
-
--- what is read after the elements of acc
-abbrev pub readAfter : {A : Type 0} → List A → Read (List A) → Read (List A)
-readAfter acc x = then x λ l r. got (acc ++ l) r
 
 -- p has the n pairs from a place on
 pub record PairsAt (w : ℕ) (s : List ℕ) (at n : ℕ) (p : PairsRead) : Type 0 where

@@ -7,12 +7,12 @@ use native.Mathlib.Nat.{lt-of-not-le, mod-lt, mod-one, pow-zero}
 use native.Mathlib.Omega.{arith}
 use lib.Pow.{mod-pow-add, pow-mono}
 use Rattle.layout.proofs.Lists.{each-and, each-imp}
-use Rattle.layout.proofs.Splitting.{TakesPieceOf, at-most-one-small, count-none}
-use Rattle.layout.proofs.Splitting.{ofHeight-other, ofHeight-same, takePiece-is}
+use Rattle.layout.proofs.Splitting.{TakesPieceOf, at-most-one-small, count-none, ofHeight-other, ofHeight-same}
+use Rattle.layout.proofs.Splitting.{takePiece-is}
 use Rattle.layout.specs.Adding.{Allocated, Taken, allocate, allocated, nothing, takePiece, taken, tooFew}
 use Rattle.layout.specs.Adding.{withPiece}
 use Rattle.layout.specs.Allocations.{Allocates, Stock}
-use Rattle.layout.specs.Covering.{Falling, AtMostOne, countOf}
+use Rattle.layout.specs.Covering.{AtMostOne, Falling, countOf}
 use Rattle.layout.specs.Layout.{OnDisk}
 use Rattle.layout.specs.Lists.{Each, done, more, next, none, sumOf}
 use Rattle.section.specs.Sections.{lengthOf}

@@ -15,8 +15,8 @@ use Rattle.layout.specs.Adding.{Taken, nothing, takeFirst, taken}
 use Rattle.layout.specs.Choices.{BuddiesOf, BuddyAbove, NoBuddies, Takes}
 use Rattle.layout.specs.Layout.{File, Layout, hasHeight}
 use Rattle.layout.specs.Lists.{Each}
-use Rattle.layout.specs.Removing.{buddyPair, fewer, hasFreeBuddy, isBuddyAbove, isTaken, merge}
-use Rattle.layout.specs.Removing.{mergeCopies, pair, withBuddy, withLower}
+use Rattle.layout.specs.Removing.{buddyPair, fewer, hasFreeBuddy, isBuddyAbove, isTaken, merge, mergeCopies, pair}
+use Rattle.layout.specs.Removing.{withBuddy, withLower}
 use Rattle.section.proofs.Booleans.{and-true, false-and}
 use Rattle.section.specs.Sections.{buddyFirst, buddyOf, endOf, lengthOf}
 use Rattle.section.specs.declared.Section.{Section}

@@ -7,9 +7,9 @@ use Rattle.layout.proofs.MergeAll.{merged-reach}
 use Rattle.layout.proofs.Removed.{removal-keeps}
 use Rattle.layout.specs.Carries.{carries}
 use Rattle.layout.specs.Layout.{File, Layout, fileBlocks, freeBlocks}
-use Rattle.layout.specs.Lists.{Each, done, Zipped, both, ends}
+use Rattle.layout.specs.Lists.{Each, Zipped, both, done, ends}
 use Rattle.layout.specs.Merges.{InDisk, MergedAll, Moved, rest, step}
-use Rattle.layout.specs.Removals.{NoLower, Find}
+use Rattle.layout.specs.Removals.{Find, NoLower}
 use Rattle.layout.specs.Removing.{Copy, Merge, copiesOf, layoutAfter, release, removal}
 use Rattle.layout.specs.Sums.{SoundSums}
 

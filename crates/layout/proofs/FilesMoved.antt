@@ -6,10 +6,9 @@ use Prim.Native.Nat.{_+_, _<_, _^_, _≤_, suc, zero, ℕ}
 use native.Mathlib.Omega.{arith}
 use Rattle.layout.proofs.Lists.{each-left, each-right, map-append}
 use Rattle.layout.proofs.Origins.{origin-append}
-use Rattle.layout.proofs.Zipped.{map-id, map-map, zipped-append, zipped-refl}
-use Rattle.layout.proofs.Zipped.{zipped-trans}
+use Rattle.layout.proofs.Zipped.{map-id, map-map, zipped-append, zipped-refl, zipped-trans}
 use Rattle.layout.specs.Layout.{File, blockRun, blocksOf, filePieces}
-use Rattle.layout.specs.Lists.{Each, done, more, Zipped, both, ends}
+use Rattle.layout.specs.Lists.{Each, Zipped, both, done, ends, more}
 use Rattle.layout.specs.Merges.{Moved, origin}
 use Rattle.layout.specs.Removing.{Copy, movedFile}
 use Rattle.layout.specs.Sums.{shape}

@@ -4,12 +4,10 @@ use mathlib.Core.List.{[], _∷_}
 use mathlib.Core.Path.{_≡_, refl}
 use Rattle.layout.specs.Adding.{allocate, allocated, takeFirst, takePiece}
 use Rattle.layout.specs.Cases.{copy, file, removed}
-use Rattle.layout.specs.Layout.{blockRun, blocksOf, filePieces, freshLayout, inRange}
-use Rattle.layout.specs.Layout.{piecesFrom}
+use Rattle.layout.specs.Layout.{blockRun, blocksOf, filePieces, freshLayout, inRange, piecesFrom}
 use Rattle.layout.specs.Lists.{insertBy, sortBy}
-use Rattle.layout.specs.Removing.{buddyPair, copiesFrom, copiesOf, copyRun, insertAll, layoutAfter}
-use Rattle.layout.specs.Removing.{lowestTwo, merge, mergeAll, mergePair, nextMerge, release, removal}
-use Rattle.layout.specs.Removing.{withoutFile}
+use Rattle.layout.specs.Removing.{buddyPair, copiesFrom, copiesOf, copyRun, insertAll, layoutAfter, lowestTwo}
+use Rattle.layout.specs.Removing.{merge, mergeAll, mergePair, nextMerge, release, removal, withoutFile}
 use Rattle.section.specs.Sections.{buddyFirst, isInside, movedInto, parentFirst, section}
 
 -- case 3: longest first from block 0

@@ -14,7 +14,7 @@ use Rattle.layout.proofs.Ranges.{Position, above, below, position, with
 use Rattle.layout.proofs.Swaps.{swap, swap-first, swap-off}
 use Rattle.layout.specs.Lists.{Each, done}
 use Rattle.layout.specs.Merges.{origin}
-use Rattle.layout.specs.Moves.{runOrNone, SameOrApart, left, right, same}
+use Rattle.layout.specs.Moves.{SameOrApart, left, right, runOrNone, same}
 use Rattle.layout.specs.Removing.{Copy, copiesFrom, copyRun}
 use Rattle.section.specs.Sections.{Apart}
 

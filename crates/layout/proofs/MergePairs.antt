@@ -7,10 +7,10 @@ use native.Mathlib.Nat.{le-of-lt}
 use native.Mathlib.Omega.{arith}
 use Rattle.layout.proofs.BuddyPairs.{buddyPair-is}
 use Rattle.layout.proofs.Splitting.{count-none, ofHeight-same}
-use Rattle.layout.proofs.Taking.{TakesOf, nothing-height, takeFirst-is, takes-each}
-use Rattle.layout.proofs.Taking.{takes-height, takes-lowest, takes-rising, takes-sum}
+use Rattle.layout.proofs.Taking.{TakesOf, nothing-height, takeFirst-is, takes-each, takes-height, takes-lowest}
+use Rattle.layout.proofs.Taking.{takes-rising, takes-sum}
 use Rattle.layout.specs.Adding.{Taken, nothing, takeFirst, taken}
-use Rattle.layout.specs.Choices.{LowestOf, Mergeable, MergeableOf, BuddiesOf, Takes}
+use Rattle.layout.specs.Choices.{BuddiesOf, LowestOf, Mergeable, MergeableOf, Takes}
 use Rattle.layout.specs.Covering.{Rising}
 use Rattle.layout.specs.Layout.{hasHeight, ofHeight}
 use Rattle.layout.specs.Removing.{MergePair, buddyPair, fewer, lowestTwo, mergePair, pair, secondOf, withLower}

@@ -13,7 +13,7 @@ use Rattle.layout.specs.Choices.{Mergeable}
 use Rattle.layout.specs.Covering.{Covers, Whole}
 use Rattle.layout.specs.Layout.{Layout, OnDisk, filePieces, holdsBlock, inRange}
 use Rattle.layout.specs.Lists.{Each, sumOf}
-use Rattle.layout.specs.Moves.{MergeParts, otherPieces, SameOrApart, left, right, same}
+use Rattle.layout.specs.Moves.{MergeParts, SameOrApart, left, otherPieces, right, same}
 use Rattle.section.proofs.Buddies.{buddy-aligned, buddy-apart}
 use Rattle.section.specs.Sections.{Apart, buddyOf, endOf, lengthOf, section}
 use Rattle.section.specs.declared.Section.{Section}

@@ -13,8 +13,7 @@ use Rattle.layout.proofs.CopiesFrom.{none-counted}
 use Rattle.layout.proofs.Cover.{sumBelow-cong, sumBelow-sections, sumBelow-span}
 use Rattle.layout.proofs.Lists.{each-imp, each-right}
 use Rattle.layout.proofs.MergeHeld.{merge-number}
-use Rattle.layout.proofs.MergePairs.{lowest-unless-buddies, lowestTwo-lowest}
-use Rattle.layout.proofs.MergePairs.{mergePair-is}
+use Rattle.layout.proofs.MergePairs.{lowest-unless-buddies, lowestTwo-lowest, mergePair-is}
 use Rattle.layout.proofs.MergeParts.{buddy-block, merge-parts}
 use Rattle.layout.proofs.Merging.{within-height}
 use Rattle.layout.proofs.Moving.{placed-off}

@@ -18,8 +18,7 @@ use Rattle.layout.specs.Layout.{OnDisk, holdsBlock, inRange}
 use Rattle.layout.specs.Lists.{Each, more, sumOf}
 use Rattle.layout.specs.Moves.{Movable, SameOrApart, left, moving, same}
 use Rattle.section.proofs.Answers.{inside-iff}
-use Rattle.section.proofs.Buddies.{buddy-aligned, buddy-apart, buddy-inside, buddy-of-lower, halves}
-use Rattle.section.proofs.Buddies.{parent-aligned}
+use Rattle.section.proofs.Buddies.{buddy-aligned, buddy-apart, buddy-inside, buddy-of-lower, halves, parent-aligned}
 use Rattle.section.proofs.Moves.{moved-aligned, moved-apart-stays, moved-inside}
 use Rattle.section.proofs.Multiples.{below-or-not, length-double, multiple-gap, multiple-sum}
 use Rattle.section.specs.Nesting.{Halves, Placed, after, before, inside, lower, upper}

@@ -17,7 +17,7 @@ use Rattle.layout.proofs.Origins.{InRun}
 use Rattle.layout.proofs.Ranges.{inRange-inside}
 use Rattle.layout.proofs.Swaps.{swap, swap-first, swap-swap}
 use Rattle.layout.specs.Layout.{File, Layout, filePieces, holdsBlock}
-use Rattle.layout.specs.Lists.{Each, sumOf, Zipped}
+use Rattle.layout.specs.Lists.{Each, Zipped, sumOf}
 use Rattle.layout.specs.Merges.{InDisk, Moved, origin}
 use Rattle.layout.specs.Moves.{MergeParts, Movable, SameOrApart, left, moving, right, runOrNone, same}
 use Rattle.layout.specs.Removing.{Copy, isHeld, movedFile}

@@ -8,11 +8,10 @@ use Prim.Native.Nat.{_+_, _<_, _^_, _≤_, ℕ}
 use native.Mathlib.Omega.{arith}
 use Rattle.layout.proofs.Lists.{each-imp, sum-cong, sum-map}
 use Rattle.layout.proofs.Ranges.{inRange-above, inRange-below, inRange-carried}
-use Rattle.layout.proofs.Swaps.{swap, swap-disk, swap-first, swap-off}
-use Rattle.layout.proofs.Swaps.{swap-second, swap-swap}
+use Rattle.layout.proofs.Swaps.{swap, swap-disk, swap-first, swap-off, swap-second, swap-swap}
 use Rattle.layout.specs.Layout.{holdsBlock, inRange}
 use Rattle.layout.specs.Lists.{Each, sumOf}
-use Rattle.layout.specs.Moves.{Movable, moving, SameOrApart, left, right, same}
+use Rattle.layout.specs.Moves.{Movable, SameOrApart, left, moving, right, same}
 use Rattle.section.proofs.Answers.{inside-iff}
 use Rattle.section.proofs.Moves.{moved-apart-stays, moved-height, moved-inside}
 use Rattle.section.specs.Nesting.{Placed, after, before, inside}

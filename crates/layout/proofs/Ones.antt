@@ -11,8 +11,7 @@ use borrow.Author.Tests.{leb-false, leb-true}
 use Rattle.layout.proofs.Allocating.{falling-thin}
 use Rattle.layout.proofs.Digits.{counts-are-digits}
 use Rattle.layout.proofs.Lists.{each-and, each-imp, length-sort, sort-sorted, sum-ge, sum-ge-all, sum-sort}
-use Rattle.layout.proofs.Splitting.{at-most-one-small, count-none, ofHeight-other}
-use Rattle.layout.proofs.Splitting.{ofHeight-same}
+use Rattle.layout.proofs.Splitting.{at-most-one-small, count-none, ofHeight-other, ofHeight-same}
 use Rattle.layout.specs.Covering.{AtMostOne, Falling, countOf}
 use Rattle.layout.specs.Layout.{OnePiecePerOne, blockCount, breaksOf, byLength, digit, ofHeight}
 use Rattle.layout.specs.Lists.{Pairwise, next, none, sortBy, sumOf}

@@ -14,7 +14,7 @@ use Rattle.layout.proofs.Lists.{each-imp}
 use Rattle.layout.proofs.Removed.{removal-keeps}
 use Rattle.layout.proofs.SoundSums.{free-size, pieces-size}
 use Rattle.layout.specs.Layout.{File, Layout, fileBlocks, findFile, freeBlocks, hasFile}
-use Rattle.layout.specs.Lists.{Each, more, next, sumOf, Zipped, both, ends}
+use Rattle.layout.specs.Lists.{Each, Zipped, both, ends, more, next, sumOf}
 use Rattle.layout.specs.Merges.{Moved}
 use Rattle.layout.specs.Removals.{Find, here, there}
 use Rattle.layout.specs.Removing.{Copy, layoutAfter, release, removal}

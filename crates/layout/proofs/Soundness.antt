@@ -14,8 +14,7 @@ use Rattle.layout.proofs.Lists.{each-and, each-imp, each-unmap, pairwis
 use Rattle.layout.proofs.Lists.{sum-append, sum-ge-all}
 use Rattle.layout.proofs.Ones.{at-most-one-distinct, at-most-one-ones, distinct-at-most-one, falling-ones}
 use Rattle.layout.proofs.Ranges.{inRange-apart, inRange-inside, inRange-le-one}
-use Rattle.layout.proofs.SoundSums.{falling-heights, falling-of, free-is, free-size}
-use Rattle.layout.proofs.SoundSums.{pieces-size}
+use Rattle.layout.proofs.SoundSums.{falling-heights, falling-of, free-is, free-size, pieces-size}
 use Rattle.layout.specs.Covering.{Falling, Rising}
 use Rattle.layout.specs.Layout.{File, Layout, allPieces, blockCount, fileBlocks, filePieces, freeBlocks}
 use Rattle.layout.specs.Layout.{holdsBlock}

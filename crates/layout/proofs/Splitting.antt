@@ -10,8 +10,8 @@ use borrow.Author.Tests.{eq-eqb, eqb-false, eqb-true, ne-eqb}
 use Rattle.layout.proofs.Digits.{val-lt, val-size}
 use Rattle.layout.proofs.Lists.{each-and, each-imp, each-insert, sum-insert}
 use Rattle.layout.proofs.Ranges.{inRange-halves, within}
-use Rattle.layout.proofs.Taking.{TakesOf, insert-rising, nothing-height, takeFirst-is}
-use Rattle.layout.proofs.Taking.{takes-each, takes-height, takes-rising, takes-sum}
+use Rattle.layout.proofs.Taking.{TakesOf, insert-rising, nothing-height, takeFirst-is, takes-each, takes-height}
+use Rattle.layout.proofs.Taking.{takes-rising, takes-sum}
 use Rattle.layout.specs.Adding.{Taken, nothing, orElse, splitAt, takeFirst, takePiece, taken}
 use Rattle.layout.specs.Allocations.{Stock}
 use Rattle.layout.specs.Choices.{Takes}

@@ -1,12 +1,12 @@
 -- What adding takes from the free sections, and what it leaves of them. Definitions only.
 use mathlib.Core.List.{List}
 use mathlib.Core.Path.{_≡_}
-use Prim.Native.Nat.{ℕ, _%_, _+_, _<_, _^_}
-use Rattle.layout.specs.Covering.{AtMostOne, Rising, Falling}
-use Rattle.layout.specs.Layout.{OnDisk, holdsBlock}
-use Rattle.layout.specs.Lists.{Each, sumOf}
+use Prim.Native.Nat.{_%_, _+_, _<_, _^_, ℕ}
 use Rattle.section.specs.Sections.{lengthOf}
 use Rattle.section.specs.declared.Section.{Section}
+use Rattle.layout.specs.Covering.{AtMostOne, Falling, Rising}
+use Rattle.layout.specs.Layout.{OnDisk, holdsBlock}
+use Rattle.layout.specs.Lists.{Each, sumOf}
 
 -- the free sections of a disk of c blocks, or the ones left while a file is placed
 pub record Stock (c : ℕ) (l : List Section) : Type 0 where

@@ -1,9 +1,9 @@
 -- Layouts and removals in few words, for the cases that are computed. Definitions only.
 use mathlib.Core.List.{List}
 use Prim.Native.Nat.{ℕ}
+use Rattle.section.specs.declared.Section.{Section}
 use Rattle.layout.specs.Layout.{File, Layout}
 use Rattle.layout.specs.Removing.{Copy, copiesOf, layoutAfter, release, removal}
-use Rattle.section.specs.declared.Section.{Section}
 
 abbrev pub file : ℕ → List Section → File
 file i l = record { id = i; pieces = l }

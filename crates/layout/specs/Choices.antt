@@ -2,13 +2,13 @@
 use mathlib.Core.Bool.{Bool, false, true}
 use mathlib.Core.List.{List, _∷_}
 use mathlib.Core.Path.{_≡_}
-use Prim.Native.Nat.{_<_, ℕ, _+_, _≤_}
+use Prim.Native.Nat.{_+_, _<_, _≤_, ℕ}
+use Rattle.section.specs.Sections.{buddyOf}
+use Rattle.section.specs.declared.Section.{Section}
 use Rattle.layout.specs.Covering.{Rising, countOf}
 use Rattle.layout.specs.Layout.{OnDisk}
 use Rattle.layout.specs.Lists.{Each, indicator, sumOf}
 use Rattle.layout.specs.Removing.{MergePair, fewer, hasFreeBuddy, isBuddyAbove, pair}
-use Rattle.section.specs.Sections.{buddyOf}
-use Rattle.section.specs.declared.Section.{Section}
 
 -- s is the first in l that passes the test, and r the others
 pub data Takes (p : Section → Bool) : List Section → Section → List Section → Type 0 where

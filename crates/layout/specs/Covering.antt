@@ -2,11 +2,11 @@
 -- Definitions only.
 use mathlib.Core.List.{List}
 use mathlib.Core.Path.{_≡_}
-use Prim.Native.Nat.{_≤_, _<_, ℕ}
-use Rattle.layout.specs.Layout.{ofHeight, holdsBlock, inRange, Layout, OnDisk, allPieces}
-use Rattle.layout.specs.Lists.{Pairwise, sumOf, Each}
+use Prim.Native.Nat.{_<_, _≤_, ℕ}
 use Rattle.section.specs.Sections.{Apart, lengthOf}
 use Rattle.section.specs.declared.Section.{Section}
+use Rattle.layout.specs.Layout.{Layout, OnDisk, allPieces, holdsBlock, inRange, ofHeight}
+use Rattle.layout.specs.Lists.{Each, Pairwise, sumOf}
 
 -- the sections of a list stand by rising first block
 abbrev pub Rising : List Section → Type 0

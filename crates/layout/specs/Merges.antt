@@ -1,17 +1,17 @@
 -- What merges do to files and free sections: a merge, and merges one after another until no height has two free
 -- sections. Definitions only.
-use mathlib.Core.Bool.{cond, Bool, false, true}
+use mathlib.Core.Bool.{Bool, cond, false, true}
 use mathlib.Core.List.{List, [], _∷_, map}
 use mathlib.Core.Path.{_≡_}
-use Prim.Native.Nat.{_<_, ℕ, _≤_, _+_, _^_, suc}
+use Prim.Native.Nat.{_+_, _<_, _^_, _≤_, suc, ℕ}
 use lib.Dec.{eqb}
 use lib.ListN.{length}
-use Rattle.layout.specs.Covering.{Whole, countOf, AtMostOne}
-use Rattle.layout.specs.Layout.{File, blocksOf, Layout, filePieces, holdsBlock, blockRun}
-use Rattle.layout.specs.Lists.{Zipped, Each, sumOf, indicator}
-use Rattle.layout.specs.Removing.{Copy, Merge, isHeld}
 use Rattle.section.specs.Sections.{lengthOf}
 use Rattle.section.specs.declared.Section.{Section}
+use Rattle.layout.specs.Covering.{AtMostOne, Whole, countOf}
+use Rattle.layout.specs.Layout.{File, Layout, blockRun, blocksOf, filePieces, holdsBlock}
+use Rattle.layout.specs.Lists.{Each, Zipped, indicator, sumOf}
+use Rattle.layout.specs.Removing.{Copy, Merge, isHeld}
 
 -- the block of before the copies whose bytes stand in block x after them
 unfoldable pub origin : List Copy → ℕ → ℕ

@@ -5,13 +5,13 @@ use mathlib.Core.List.{List, [], _++_, _∷_}
 use mathlib.Core.Path.{_≡_}
 use Prim.Native.Nat.{_+_, _^_, _≤_, ℕ}
 use lib.Dec.{eqb}
+use Rattle.section.specs.Nesting.{Placed}
+use Rattle.section.specs.Sections.{Apart, buddyOf, lengthOf, movedInto, section}
+use Rattle.section.specs.declared.Section.{Section}
 use Rattle.layout.specs.Covering.{Covers}
 use Rattle.layout.specs.Layout.{Layout, OnDisk, filePieces}
 use Rattle.layout.specs.Lists.{Each}
 use Rattle.layout.specs.Removing.{Copy, copiesFrom, copyRun}
-use Rattle.section.specs.Nesting.{Placed}
-use Rattle.section.specs.Sections.{Apart, lengthOf, movedInto, section, buddyOf}
-use Rattle.section.specs.declared.Section.{Section}
 
 -- two spans of n blocks are the same or apart
 pub data SameOrApart (b u n : ℕ) : Type 0 where

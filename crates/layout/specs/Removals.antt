@@ -1,10 +1,10 @@
 -- What a removal leaves: its merges, the files that stay, and the limit on its copies. Definitions only.
 use mathlib.Core.List.{List, _∷_}
 use mathlib.Core.Path.{_≡_}
-use Prim.Native.Nat.{ℕ, _≤_}
+use Prim.Native.Nat.{_≤_, ℕ}
 use lib.ListN.{length}
 use Rattle.layout.specs.Carries.{carries}
-use Rattle.layout.specs.Layout.{File, Layout, fileBlocks, freeBlocks, blocksOf}
+use Rattle.layout.specs.Layout.{File, Layout, blocksOf, fileBlocks, freeBlocks}
 use Rattle.layout.specs.Lists.{Zipped}
 use Rattle.layout.specs.Merges.{MergedAll, Moved}
 use Rattle.layout.specs.Removing.{Merge, copiesOf, layoutAfter, release}

@@ -1,14 +1,14 @@
 -- Soundness by sums, which adding and removing keep. Nobody has to believe this file: `sound-sums` and `sums-sound`
 -- say that a layout is sound by sums exactly if it is `Sound`. Definitions only.
 use mathlib.Core.List.{List, map}
-use Prim.Native.Nat.{ℕ, _-_, _<_, _^_, _≤_}
+use Prim.Native.Nat.{_-_, _<_, _^_, _≤_, ℕ}
 use lib.ListN.{length}
+use Rattle.section.specs.Limits.{mostFiles}
+use Rattle.section.specs.declared.Section.{Section}
 use Rattle.layout.specs.Covering.{AtMostOne, Covers, Rising}
 use Rattle.layout.specs.Layout.{File, Layout, OnDisk, allPieces}
 use Rattle.layout.specs.Lists.{Each, Pairwise}
 use Rattle.layout.specs.Sound.{greatestId}
-use Rattle.section.specs.Limits.{mostFiles}
-use Rattle.section.specs.declared.Section.{Section}
 
 -- id and heights of a file
 pub record Shape : Type 0 where

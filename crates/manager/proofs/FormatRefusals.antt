@@ -18,10 +18,10 @@ use Rattle.manager.proofs.Deciding.{Decides, decides-below, decides-or}
 use Rattle.manager.proofs.Deciding.{equal-if-never-unequal}
 use Rattle.manager.proofs.Refusals.{answered-not-refused}
 use Rattle.manager.proofs.TableRows.{decides-unpaged}
-use Rattle.manager.specs.Conditions.{answered, condition, firstRefusal, noDisk, outcome}
-use Rattle.manager.specs.Conditions.{unlessRefused, wrongCatalogue}
+use Rattle.manager.specs.Conditions.{answered, condition, firstRefusal, noDisk, outcome, unlessRefused}
+use Rattle.manager.specs.Conditions.{wrongCatalogue}
 use Rattle.manager.specs.Disk.{pageCount}
-use Rattle.manager.specs.Formatting.{FormatRefused, SomeDisk, NoVersion}
+use Rattle.manager.specs.Formatting.{FormatRefused, NoVersion, SomeDisk}
 use Rattle.manager.specs.Outcomes.{formatIn, formatOutcome}
 use Rattle.section.specs.Limits.{blockSize, heightCount}
 

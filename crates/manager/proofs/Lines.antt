@@ -11,7 +11,7 @@ use Rattle.layout.proofs.Occurs.{length-blocks}
 use Rattle.layout.proofs.Zipped.{map-map}
 use Rattle.layout.specs.Layout.{File, Found, blockCount, blocksOf, byId, fileBlocks, findFile, found, hasFile}
 use Rattle.layout.specs.Layout.{isFound, missing}
-use Rattle.layout.specs.Lists.{Each, insertBy, sumOf, Zipped, both, ends}
+use Rattle.layout.specs.Lists.{Each, Zipped, both, ends, insertBy, sumOf}
 use Rattle.layout.specs.Merges.{InDisk, Moved, origin}
 use Rattle.layout.specs.Removals.{Find, here, there}
 use Rattle.layout.specs.Removing.{Copy}

@@ -27,8 +27,7 @@ use Rattle.manager.proofs.Lines.{find-strike, moved-lines}
 use Rattle.manager.proofs.OnSound.{remove-on-sound}
 use Rattle.manager.specs.Book.{strikeLine}
 use Rattle.manager.specs.Changes.{RemovesFrom}
-use Rattle.manager.specs.Conditions.{allowed, condition, fileChecks, firstRefusal}
-use Rattle.manager.specs.Conditions.{unlessRefused}
+use Rattle.manager.specs.Conditions.{allowed, condition, fileChecks, firstRefusal, unlessRefused}
 use Rattle.manager.specs.Disk.{block}
 use Rattle.manager.specs.Outcomes.{afterMerges, removeFound, removeOutcome}
 use Rattle.manager.specs.WholeList.{lineOn}

@@ -2,22 +2,22 @@
 -- catalogue and its disk. Definitions only.
 use mathlib.Core.List.{List, [], map}
 use mathlib.Core.Path.{_≡_}
-use Prim.Native.Nat.{ℕ, _*_, _≤_}
+use Prim.Native.Nat.{_*_, _≤_, ℕ}
 use lib.ListN.{length}
-use Rattle.catalogue.specs.Encoding.{encode}
-use Rattle.catalogue.specs.declared.Version.{Version}
+use Rattle.section.specs.Limits.{blockSize, heightCount}
+use Rattle.section.specs.declared.Section.{Section}
 use Rattle.layout.specs.Adding.{allocate, allocated, withFile}
 use Rattle.layout.specs.Carries.{carries}
-use Rattle.layout.specs.Layout.{Layout, holdsBlock, File, fileBlocks, freeBlocks}
-use Rattle.layout.specs.Lists.{sumOf, Each}
+use Rattle.layout.specs.Layout.{File, Layout, fileBlocks, freeBlocks, holdsBlock}
+use Rattle.layout.specs.Lists.{Each, sumOf}
 use Rattle.layout.specs.Removing.{Copy, copiesOf, layoutAfter, release, removal}
 use Rattle.layout.specs.Sound.{Sound}
-use Rattle.manager.specs.Book.{contentPages, writeLine, strikeLine}
+use Rattle.catalogue.specs.Encoding.{encode}
+use Rattle.catalogue.specs.declared.Version.{Version}
+use Rattle.manager.specs.Book.{contentPages, strikeLine, writeLine}
 use Rattle.manager.specs.Conditions.{Outcome, answered}
 use Rattle.manager.specs.Disk.{block, cutPages, pageCount, pagesOn, runCopies}
 use Rattle.manager.specs.WholeList.{lineOn}
-use Rattle.section.specs.Limits.{blockSize, heightCount}
-use Rattle.section.specs.declared.Section.{Section}
 
 -- the buffers after a call are those before it
 pub record Unchanged (cat d o : List ℕ) (x : Outcome) : Type 0 where

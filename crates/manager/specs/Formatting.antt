@@ -2,12 +2,12 @@
 use mathlib.Core.List.{List}
 use mathlib.Core.Logic.{_↔_, _⊎_}
 use mathlib.Core.Path.{_≡_}
-use Prim.Native.Nat.{ℕ, _*_, _≤_}
+use Prim.Native.Nat.{_*_, _≤_, ℕ}
 use lib.ListN.{length}
-use Rattle.catalogue.specs.Version.{OneOf, versions, greatestBlocks}
+use Rattle.section.specs.Limits.{blockSize}
+use Rattle.catalogue.specs.Version.{OneOf, greatestBlocks, versions}
 use Rattle.catalogue.specs.declared.Version.{Version}
 use Rattle.manager.specs.Conditions.{Reply, refused}
-use Rattle.section.specs.Limits.{blockSize}
 
 -- the catalogue has the length of no version
 abbrev pub NoVersion : List ℕ → Type 0

@@ -3,9 +3,7 @@ use mathlib.Core.Bool.{Bool, false, true}
 use mathlib.Core.List.{List, [], _++_, _∷_}
 use mathlib.Core.Path.{_≡_}
 use Prim.Native.Nat.{_≤_, suc, ℕ}
-use lib.Dec.{leb}
 use lib.ListN.{drop, take}
-use Rattle.section.specs.declared.Section.{Section}
 
 -- how many stand before the first that passes the test
 unfoldable pub firstPlace : {A : Type 0} → (A → Bool) → List A → ℕ
@@ -19,10 +17,6 @@ withoutAt i l = take i l ++ drop (suc i) l
 -- with one more, at place i
 unfoldable pub withAt : {A : Type 0} → ℕ → A → List A → List A
 withAt i a l = take i l ++ (a ∷ drop i l)
-
--- the section starts at block x or above
-abbrev pub startsNoLower : ℕ → Section → Bool
-startsNoLower x s = leb x (s .first)
 
 -- r is the place i, which is one of n or the end
 pub record IsPlace (n i r : ℕ) : Type 0 where

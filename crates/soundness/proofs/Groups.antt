@@ -14,7 +14,11 @@ use Rattle.section.specs.Limits.{greatestDisk}
 use Rattle.section.specs.Sections.{endOf, sharesBlock}
 use Rattle.section.specs.declared.Section.{Section}
 use Rattle.soundness.proofs.Points.{Row, Rows, false-true, pair-fails, rows-end}
-use Rattle.soundness.specs.Sharing.{Ends, apart, far, noneShared, sharesAmong}
+use Rattle.soundness.specs.Sharing.{Ends, far, noneShared, sharesAmong}
+
+-- the two share no block
+abbrev pub apart : Section → Section → Bool
+apart s t = not (sharesBlock s t)
 
 or-false : (a b : Bool) → (a || b) ≡ false → (a ≡ false) × (b ≡ false)
 or-false true b e = (e, false-true (sym e))

@@ -51,10 +51,6 @@ unfoldable pub sharesAmong : Section → List Section → ℕ → ℕ → Bool
 sharesAmong s l at zero = false
 sharesAmong s l at (suc n) = sharesAmong s l at n || sharesBlock s (getD l (at + n) far)
 
--- the two share no block
-abbrev pub apart : Section → Section → Bool
-apart s t = not (sharesBlock s t)
-
 -- no two pieces share a block
 abbrev pub noneShared : List Section → Bool
 noneShared l = pairwise (λ (s t : Section). not (sharesBlock s t)) l

@@ -15,13 +15,16 @@ use Rattle.section.specs.Sections.{Addressable}
 use Rattle.section.specs.declared.Section.{Section}
 use Rattle.piece_lists.proofs.Arrays.{insert-withAt}
 use Rattle.table.proofs.MapFirst.{pieces-moved}
-use Rattle.table.specs.Files.{noLowerId}
 use Rattle.table.specs.Moves.{PiecesServed, mapFirst, movedEntry}
 use Rattle.piece_lists.specs.Places.{firstPlace, withAt, withoutAt}
 use Rattle.free_pieces.specs.Free.{freeOf}
 use Rattle.table.specs.Tables.{fileOf, filesOf, layoutOf, piecesIn}
 use Rattle.table.specs.declared.Entry.{Entry}
 use Rattle.table.specs.declared.Table.{Table}
+
+-- where an entry of id i is put
+abbrev pub noLowerId : ℕ → Entry → Bool
+noLowerId i e = leb i (e .id)
 
 abbrev pub entryHas : ℕ → Entry → Bool
 entryHas i e = eqb (e .id) i

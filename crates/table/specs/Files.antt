@@ -3,7 +3,7 @@ use mathlib.Core.Bool.{Bool}
 use mathlib.Core.List.{[]}
 use mathlib.Core.Path.{_≡_}
 use Prim.Native.Nat.{_+_, ℕ}
-use lib.Dec.{eqb, leb}
+use lib.Dec.{eqb}
 use lib.ListN.{getD}
 use Rattle.layout.specs.Adding.{withFile}
 use Rattle.layout.specs.Layout.{File}
@@ -15,10 +15,6 @@ use Rattle.table.specs.declared.Table.{Table}
 
 abbrev pub hasId : ℕ → File → Bool
 hasId i f = eqb (f .id) i
-
--- where an entry of id i is put
-abbrev pub noLowerId : ℕ → Entry → Bool
-noLowerId i e = leb i (e .id)
 
 -- an entry of no pieces
 abbrev pub noEntry : Entry

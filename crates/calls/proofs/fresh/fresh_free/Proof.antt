@@ -10,8 +10,7 @@ use borrow.Author.Needs.{needs}
 use Rattle.section.specs.Limits.{heightCount}
 use Rattle.layout.specs.Layout.{piecesFrom}
 use Rattle.piece_lists.specs.Few.{listOf, piecePlaces}
-use Rattle.calls.specs.Fresh.{piecesWith}
-use Rattle.calls.proofs.FreshPieces.{pieces-end, pieces-push, pieces-skip, pieces-start}
+use Rattle.calls.proofs.FreshPieces.{pieces-end, pieces-push, pieces-skip, pieces-start, piecesWith}
 use Rattle.calls.proofs.fresh.fresh_free.Statement.{statement}
 use Rattle.calls.proofs.fresh.fresh_free.Tie as tie
 

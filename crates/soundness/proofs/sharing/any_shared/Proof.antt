@@ -8,8 +8,8 @@ use native.Mathlib.Omega.{arith}
 use lib.ListN.{getD}
 use borrow.Author.Needs.{needs}
 use Rattle.section.specs.declared.Section.{Section}
-use Rattle.soundness.specs.Sharing.{Noted, apart, far, groupSize}
-use Rattle.soundness.proofs.Groups.{group-fails, row-group, rows-through}
+use Rattle.soundness.specs.Sharing.{Noted, far, groupSize}
+use Rattle.soundness.proofs.Groups.{apart, group-fails, row-group, rows-through}
 use Rattle.soundness.proofs.Points.{Row, Rows, row-start, rows-more, rows-none}
 use Rattle.soundness.proofs.sharing.any_shared.Statement.{statement}
 use Rattle.soundness.proofs.sharing.any_shared.Tie as tie

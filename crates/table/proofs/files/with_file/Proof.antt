@@ -14,8 +14,8 @@ use Rattle.piece_lists.proofs.Arrays.{length-of-mapped, place-end, place-here, 
 use Rattle.piece_lists.proofs.Arrays.{withAt-end, withAt-more, withAt-start}
 use Rattle.piece_lists.proofs.EachItem.{each-get, each-set}
 use Rattle.piece_lists.specs.Places.{firstPlace, withAt}
-use Rattle.table.proofs.FileLists.{layout-added}
-use Rattle.table.specs.Files.{noEntry, noLowerId}
+use Rattle.table.proofs.FileLists.{layout-added, noLowerId}
+use Rattle.table.specs.Files.{noEntry}
 use Rattle.table.specs.Tables.{InPlaces, layoutOf}
 use Rattle.table.proofs.files.with_file.Statement.{statement}
 use Rattle.table.proofs.files.with_file.Tie as tie

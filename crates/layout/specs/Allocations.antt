@@ -20,6 +20,8 @@ pub record Allocates (c h n : ℕ) (free s r : List Section) : Type 0 where
   pub falling : Falling s
   pub lower : Each (λ (a : Section). a .height .value < h) s
   pub stock : Stock c r
+  -- every free block is in one of the pieces or still free
   pub held : (x : ℕ) → sumOf (holdsBlock x) free ≡ sumOf (holdsBlock x) s + sumOf (holdsBlock x) r
   pub size : sumOf lengthOf free ≡ sumOf lengthOf s + sumOf lengthOf r
+  -- the pieces have as many blocks as the digits say
   pub blocks : sumOf lengthOf s ≡ n % 2 ^ h

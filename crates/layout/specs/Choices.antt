@@ -49,6 +49,7 @@ pub record Mergeable (h : ℕ) (free : List Section) (l u : Section) (r : List S
   pub high : u .height .value ≡ h
   pub order : l .first ≤ u .first
   pub rising : Rising r
+  -- free is l, u and r, in some order
   pub sum : (w : Section → ℕ) → sumOf w free ≡ w l + (w u + sumOf w r)
   pub each : (c : ℕ) → Each (OnDisk c) free → OnDisk c l × OnDisk c u × Each (OnDisk c) r
 

@@ -41,17 +41,22 @@ pub record IntoFree (fs : List File) (cs : List Copy) : Type 0 where
 pub record MergeKeeps (c h : ℕ) (w : Layout) (m : Merge) : Type 0 where
   pub whole : Whole c (m .after)
   pub blocks : m .after .blocks ≡ w .blocks
+  -- two free sections of the height less, one of the next more
   pub less : countOf h (w .free) ≡ 2 + countOf h (m .after .free)
   pub plus : countOf (suc h) (m .after .free) ≡ suc (countOf (suc h) (w .free))
   pub same : (j : ℕ) → (j ≡ h → ⊥) → (j ≡ suc h → ⊥) → countOf j (m .after .free) ≡ countOf j (w .free)
+  -- as many free blocks, and one free section less
   pub size : sumOf lengthOf (m .after .free) ≡ sumOf lengthOf (w .free)
   pub shorter : suc (length (m .after .free)) ≡ length (w .free)
+  -- the copies: on the disk, each to a higher block
   pub few : length (m .copies) ≤ 2 ^ h
   pub reach : Each (InDisk c) (m .copies)
   pub rise : Each (λ (x : Copy). x .source < x .target) (m .copies)
+  -- from blocks that files hold to blocks that files hold after the merge, which were free
   pub held : Each (λ (x : Copy). isHeld (w .files) (x .source) ≡ true) (m .copies)
   pub filled : Each (λ (x : Copy). isHeld (m .after .files) (x .target) ≡ true) (m .copies)
   pub apart : IntoFree (w .files) (m .copies)
+  -- every file keeps its pages, each where its copy went
   pub files : Zipped (Moved (m .copies)) (w .files) (m .after .files)
 
 -- the merges of a layout, one by one, until no height has two free sections

@@ -44,7 +44,7 @@ pub record Adds (v : Version) (l : Layout) (d : List ℕ) (i : ℕ) (bs : List �
   pub lines : map (lineOn (o .disk)) (withFile i pieces rest l .files)
       ≡ writeLine (record { id = i; pages = contentPages bs }) (map (lineOn d) (l .files))
 
--- all that a removal of the file f from the layout l does, with its merges ms
+-- all that an answered removal of the file f does to the layout l and the disk d
 pub record RemovesFrom (v : Version) (l : Layout) (d : List ℕ) (f : File) (o : Outcome) : Type 0 where
   pub reply : o .reply ≡ answered (length (copiesOf (removal heightCount f l)))
   pub catalogue : o .catalogue ≡ encode v (layoutAfter (release f l) (removal heightCount f l))

@@ -52,6 +52,7 @@ pub mod OneBuddyPair
 pub mod PageOrder
 pub mod LayoutCases
 pub mod BuddyCases
+pub mod AddCases
 pub mod LowestTwo
 pub mod LowerHalves
 pub mod RemovedRoom

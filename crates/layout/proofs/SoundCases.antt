@@ -1,5 +1,5 @@
--- Layouts in literal numbers that are sound: files of one and of two pieces with two free ones, the greatest disks, and
--- 64 files up to the greatest id. A rule that refuses one of them is too strict. Assumes nothing.
+-- Layouts in literal numbers that are sound: files of one and of two pieces with two free ones, the least disk and the
+-- greatest, and 64 files up to the greatest id. A rule that refuses one of them is too strict. Assumes nothing.
 use mathlib.Core.List.{List, [], _∷_}
 use mathlib.Core.Logic.{inl, inr}
 use mathlib.Core.Path.{_∙_, _≡_, ap, refl}
@@ -73,14 +73,16 @@ sixteen-blocks-sound = record {
       (next {a = section 7 0} (more {a = section 8 3} (inl (omega arith)) done) (next done none))));
 }
 
--- ---- the greatest disks
+-- ---- the least disk and the greatest
 
--- 4,096 blocks with the heights of version 1, and 1,048,576 with those of version 2, all free
-pub greatest-disks-sound :
-    Sound 13 (record { blocks = 4096; files = []; free = section 0 12 ∷ [] })
+-- one block and 4,096 with the heights of version 1, and 1,048,576 with those of version 2, all free
+pub free-disks-sound :
+    Sound 13 (record { blocks = 1; files = []; free = section 0 0 ∷ [] })
+    × Sound 13 (record { blocks = 4096; files = []; free = section 0 12 ∷ [] })
     × Sound 21 (record { blocks = 1048576; files = []; free = section 0 20 ∷ [] })
 unfolding freshLayout piecesFrom
-greatest-disks-sound = (
+free-disks-sound = (
+  sums-sound 13 (freshLayout 13 1) (fresh-sound 13 1 (omega arith) (omega arith) (omega arith)),
   sums-sound 13 (freshLayout 13 4096) (fresh-sound 13 4096 (omega arith) (omega arith) (omega arith)),
   sums-sound 21 (freshLayout 21 1048576) (fresh-sound 21 1048576 (omega arith) (omega arith) (omega arith)),
 )

@@ -137,3 +137,12 @@ free-share-unsound s = not-apart 0 2 1 1 (omega arith) (omega arith) (two (tail 
   where
     tail : {R : Section → Section → Type 0} {a : Section} {l : List Section} → Pairwise R (a ∷ l) → Pairwise R l
     tail (next e p) = p
+
+-- block 0 by two pieces that are not neighbours in the list
+pub far-pieces-share-unsound :
+    Unsound 8 (file 1 (section 0 0 ∷ []) ∷ file 2 (section 4 2 ∷ []) ∷ []) (section 0 0 ∷ section 2 1 ∷ [])
+unfolding filePieces
+far-pieces-share-unsound s = not-apart 0 1 0 1 (omega arith) (omega arith) (third (s .apart))
+  where
+    third : {R : Section → Section → Type 0} {a b c : Section} {l : List Section} → Pairwise R (a ∷ b ∷ c ∷ l) → R a c
+    third (next e p) = each-head (each-tail e)

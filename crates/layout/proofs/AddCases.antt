@@ -1,0 +1,67 @@
+-- Cases 5, 6 and 8 of document 01 on layouts, the files of case 6 by id, page order and blocks in a range, in literal
+-- numbers. Assumes nothing.
+use mathlib.Core.Bool.{false, true}
+use mathlib.Core.List.{List, [], _∷_}
+use mathlib.Core.Path.{_≡_, refl}
+use Rattle.layout.specs.Adding.{allocate, allocated, takeFirst, takePiece, tooFew, withFile}
+use Rattle.layout.specs.Layout.{File, byLength, findFile, found, freeBlocks, hasFile, inRange}
+use Rattle.layout.specs.Layout.{missing}
+use Rattle.layout.specs.Lists.{insertBy, sortBy}
+use Rattle.section.specs.Sections.{section}
+use Rattle.layout.specs.Cases.{file}
+
+-- case 5: one block; case 6: two; case 8: ten, and eleven are too many
+pub cases-five-to-eight :
+    allocate 0 13 1 (section 3 0 ∷ section 4 2 ∷ section 8 3 ∷ [])
+    ∷ allocate 0 13 2 (section 4 2 ∷ section 8 3 ∷ [])
+    ∷ allocate 0 13 10 (section 6 1 ∷ section 8 3 ∷ [])
+    ∷ allocate 0 13 11 (section 6 1 ∷ section 8 3 ∷ [])
+    ∷ []
+    ≡ allocated (section 3 0 ∷ []) (section 4 2 ∷ section 8 3 ∷ [])
+    ∷ allocated (section 4 1 ∷ []) (section 6 1 ∷ section 8 3 ∷ [])
+    ∷ allocated (section 8 3 ∷ section 6 1 ∷ []) []
+    ∷ tooFew
+    ∷ []
+unfolding allocate takePiece takeFirst insertBy
+cases-five-to-eight = refl
+
+abbrev caseSix : List File
+caseSix = file 2 (section 4 1 ∷ []) ∷ file 5 (section 0 1 ∷ section 2 0 ∷ []) ∷ file 9 (section 3 0 ∷ []) ∷ []
+
+-- case 6: id 2 stands before 5 and 9, and f is 10
+pub case-six-layout :
+    withFile 2 (section 4 1 ∷ []) (section 6 1 ∷ section 8 3 ∷ [])
+    (record {
+      blocks = 16;
+      files = file 5 (section 0 1 ∷ section 2 0 ∷ []) ∷ file 9 (section 3 0 ∷ []) ∷ [];
+      free = section 4 2 ∷ section 8 3 ∷ [];
+    })
+    ≡ record { blocks = 16; files = caseSix; free = section 6 1 ∷ section 8 3 ∷ [] }
+unfolding insertBy
+case-six-layout = refl
+
+pub case-six-free :
+    freeBlocks (record { blocks = 16; files = caseSix; free = section 6 1 ∷ section 8 3 ∷ [] }) ≡ 10
+case-six-free = refl
+
+-- the files of case 6 by their ids
+pub case-six-files :
+    findFile 9 caseSix ∷ findFile 5 caseSix ∷ findFile 7 caseSix ∷ []
+    ≡ found (file 9 (section 3 0 ∷ [])) ∷ found (file 5 (section 0 1 ∷ section 2 0 ∷ [])) ∷ missing ∷ []
+unfolding findFile
+case-six-files = refl
+
+pub case-six-has : hasFile 9 caseSix ∷ hasFile 2 caseSix ∷ hasFile 7 caseSix ∷ [] ≡ true ∷ true ∷ false ∷ []
+unfolding findFile
+case-six-has = refl
+
+-- case 11: the pairs by first block, and by length for page order
+pub case-eleven-order : sortBy byLength (section 0 2 ∷ section 13 0 ∷ section 14 1 ∷ [])
+    ≡ section 0 2 ∷ section 14 1 ∷ section 13 0 ∷ []
+unfolding sortBy insertBy
+case-eleven-order = refl
+
+-- the two blocks from 4 on are 4 and 5
+pub blocks-in-range : inRange 3 4 2 ∷ inRange 4 4 2 ∷ inRange 5 4 2 ∷ inRange 6 4 2 ∷ [] ≡ 0 ∷ 1 ∷ 1 ∷ 0 ∷ []
+unfolding inRange
+blocks-in-range = refl

@@ -1,10 +1,10 @@
--- Cases 5, 6 and 8 of document 01 on layouts, the files of case 6 by id, page order and blocks in a range, in literal
--- numbers. Assumes nothing.
+-- Cases 5, 6 and 8 of document 01 on layouts, splits through all heights, the files of case 6 by id, page order, breaks
+-- and blocks in a range, in literal numbers. Assumes nothing.
 use mathlib.Core.Bool.{false, true}
 use mathlib.Core.List.{List, [], _∷_}
 use mathlib.Core.Path.{_≡_, refl}
 use Rattle.layout.specs.Adding.{allocate, allocated, takeFirst, takePiece, tooFew, withFile}
-use Rattle.layout.specs.Layout.{File, byLength, findFile, found, freeBlocks, hasFile, inRange}
+use Rattle.layout.specs.Layout.{File, breaksOf, byLength, findFile, found, freeBlocks, hasFile, inRange}
 use Rattle.layout.specs.Layout.{missing}
 use Rattle.layout.specs.Lists.{insertBy, sortBy}
 use Rattle.section.specs.Sections.{section}
@@ -24,6 +24,22 @@ pub cases-five-to-eight :
     ∷ []
 unfolding allocate takePiece takeFirst insertBy
 cases-five-to-eight = refl
+
+-- one block of the greatest disk: a split at each of the 20 heights below the greatest
+pub split-all-heights : allocate 0 21 1 (section 0 20 ∷ [])
+    ≡ allocated (section 0 0 ∷ [])
+    (section 1 0 ∷ section 2 1 ∷ section 4 2 ∷ section 8 3 ∷ section 16 4 ∷ section 32 5 ∷ section 64 6
+    ∷ section 128 7 ∷ section 256 8 ∷ section 512 9 ∷ section 1024 10 ∷ section 2048 11 ∷ section 4096 12
+    ∷ section 8192 13 ∷ section 16384 14 ∷ section 32768 15 ∷ section 65536 16 ∷ section 131072 17
+    ∷ section 262144 18 ∷ section 524288 19 ∷ [])
+unfolding allocate takePiece takeFirst insertBy
+split-all-heights = refl
+
+-- five blocks: four split from the piece at 32, since the one at 0 is too short, and one from that at 0
+pub split-two-pieces : allocate 0 13 5 (section 0 1 ∷ section 32 5 ∷ [])
+    ≡ allocated (section 32 2 ∷ section 0 0 ∷ []) (section 1 0 ∷ section 36 2 ∷ section 40 3 ∷ section 48 4 ∷ [])
+unfolding allocate takePiece takeFirst insertBy
+split-two-pieces = refl
 
 abbrev caseSix : List File
 caseSix = file 2 (section 4 1 ∷ []) ∷ file 5 (section 0 1 ∷ section 2 0 ∷ []) ∷ file 9 (section 3 0 ∷ []) ∷ []
@@ -65,3 +81,11 @@ case-eleven-order = refl
 pub blocks-in-range : inRange 3 4 2 ∷ inRange 4 4 2 ∷ inRange 5 4 2 ∷ inRange 6 4 2 ∷ [] ≡ 0 ∷ 1 ∷ 1 ∷ 0 ∷ []
 unfolding inRange
 blocks-in-range = refl
+
+-- one piece has no break, the two of case 4 have one, the three of case 11 have two
+pub breaks-of-cases :
+    breaksOf (section 7 0 ∷ []) ∷ breaksOf (section 0 1 ∷ section 2 0 ∷ [])
+    ∷ breaksOf (section 0 2 ∷ section 14 1 ∷ section 13 0 ∷ []) ∷ []
+    ≡ 0 ∷ 1 ∷ 2 ∷ []
+unfolding breaksOf
+breaks-of-cases = refl

@@ -28,6 +28,7 @@ pub mod MergeStep
 pub mod MergeAll
 pub mod Carries
 pub mod CarryBound
+pub mod UnsoundCases
 pub mod SoundSums
 pub mod Finding
 pub mod Removed
@@ -42,7 +43,6 @@ pub mod SoundPieces
 pub mod OnDisk
 pub mod MergeDue
 pub mod SoundCases
-pub mod UnsoundCases
 pub mod Occurs
 pub mod CopiesRise
 pub mod MergeOrder

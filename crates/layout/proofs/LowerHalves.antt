@@ -1,14 +1,13 @@
 -- The piece that is taken begins where the free piece begins that it is taken or split from: of every split the lower
--- half is used, and the upper half joins the free pieces. With splits through all heights in literal numbers. Assumes
--- nothing.
+-- half is used, and the upper half joins the free pieces. `AddCases` has splits in literal numbers. Assumes nothing.
 use mathlib.Core.List.{List, [], _∷_}
-use mathlib.Core.Path.{_≡_, ap, refl, subst, sym}
+use mathlib.Core.Path.{_≡_, ap, subst, sym}
 use Prim.Native.Nat.{_+_, _<_, _^_, _≤_, suc, zero, ℕ}
 use native.Mathlib.Omega.{arith}
 use Rattle.layout.proofs.Lists.{each-all, each-and, each-imp, sum-insert}
 use Rattle.layout.proofs.MovedPieces.{section-eta}
 use Rattle.layout.proofs.Taking.{TakesOf, nothing-height, takeFirst-is, takes-height}
-use Rattle.layout.specs.Adding.{Taken, allocate, allocated, nothing, orElse, splitAt, takeFirst, takePiece, taken}
+use Rattle.layout.specs.Adding.{Taken, nothing, orElse, splitAt, takeFirst, takePiece, taken}
 use Rattle.layout.specs.Layout.{byFirst, hasHeight}
 use Rattle.layout.specs.Lists.{Each, insertBy, sumOf}
 use Rattle.section.specs.Sections.{section}
@@ -102,21 +101,3 @@ comes (suc k) h free =
 pub piece-comes-from : (k h : ℕ) (free : List Section) {s : Section} {r : List Section}
     → takePiece k h free ≡ taken s r → ComesFrom k h free s r
 piece-comes-from k h free e = subst (ComesFromOf k h free) e (comes k h free)
-
--- ---- in literal numbers
-
--- one block of the greatest disk: a split at each of the 20 heights below the greatest
-pub split-all-heights : allocate 0 21 1 (section 0 20 ∷ [])
-    ≡ allocated (section 0 0 ∷ [])
-    (section 1 0 ∷ section 2 1 ∷ section 4 2 ∷ section 8 3 ∷ section 16 4 ∷ section 32 5 ∷ section 64 6
-    ∷ section 128 7 ∷ section 256 8 ∷ section 512 9 ∷ section 1024 10 ∷ section 2048 11 ∷ section 4096 12
-    ∷ section 8192 13 ∷ section 16384 14 ∷ section 32768 15 ∷ section 65536 16 ∷ section 131072 17
-    ∷ section 262144 18 ∷ section 524288 19 ∷ [])
-unfolding allocate takePiece takeFirst insertBy
-split-all-heights = refl
-
--- five blocks: four split from the piece at 32, since the one at 0 is too short, and one from that at 0
-pub split-two-pieces : allocate 0 13 5 (section 0 1 ∷ section 32 5 ∷ [])
-    ≡ allocated (section 32 2 ∷ section 0 0 ∷ []) (section 1 0 ∷ section 36 2 ∷ section 40 3 ∷ section 48 4 ∷ [])
-unfolding allocate takePiece takeFirst insertBy
-split-two-pieces = refl

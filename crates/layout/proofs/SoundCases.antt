@@ -1,6 +1,6 @@
 -- Layouts in literal numbers that are sound: files of one and of two pieces with two free ones, the least disk and the
 -- greatest, and 64 files up to the greatest id. A rule that refuses one of them is too strict. Assumes nothing.
-use mathlib.Core.List.{List, [], _∷_}
+use mathlib.Core.List.{[], _∷_}
 use mathlib.Core.Logic.{inl, inr}
 use mathlib.Core.Path.{_∙_, _≡_, ap, refl}
 use Prim.Native.Nat.{_%_, _+_, _<_, _^_, _≤_, suc, zero, ℕ}
@@ -10,6 +10,7 @@ use lib.Count.{ones, onesIn}
 use Rattle.layout.proofs.Fresh.{fresh-sound}
 use Rattle.layout.proofs.Lists.{each-imp}
 use Rattle.layout.proofs.Soundness.{sums-sound}
+use Rattle.layout.proofs.UnsoundCases.{singles}
 use Rattle.layout.specs.Layout.{File, filePieces, freshLayout, piecesFrom}
 use Rattle.layout.specs.Lists.{Each, Pairwise, done, more, next, none}
 use Rattle.layout.specs.Sound.{Sound}
@@ -88,11 +89,6 @@ free-disks-sound = (
 )
 
 -- ---- 64 files
-
--- n files of one block each, one after another: ids from i on, blocks from x on
-unfoldable pub singles : ℕ → ℕ → ℕ → List File
-singles i x zero = []
-singles i x (suc n) = file i (section x 0 ∷ []) ∷ singles (suc i) (suc x) n
 
 singles-ids : (i x n : ℕ) → Each (λ (f : File). (i ≤ f .id) × (f .id < i + n)) (singles i x n)
 unfolding singles

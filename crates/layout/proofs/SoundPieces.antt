@@ -98,13 +98,3 @@ twelve-pieces-most l s = pieces-most 13 l s (omega arith)
 pub twenty-pieces-most : (l : Layout) → Sound 21 l
     → Each (λ (f : File). length (f .pieces) ≤ 20) (l .files) × (length (l .free) ≤ 20)
 twenty-pieces-most l s = pieces-most 21 l s (omega arith)
-
--- ---- in literal numbers
-
--- one piece has no break, the two of case 4 have one, the three of case 11 have two
-pub breaks-of-cases :
-    breaksOf (section 7 0 ∷ []) ∷ breaksOf (section 0 1 ∷ section 2 0 ∷ [])
-    ∷ breaksOf (section 0 2 ∷ section 14 1 ∷ section 13 0 ∷ []) ∷ []
-    ≡ 0 ∷ 1 ∷ 2 ∷ []
-unfolding breaksOf
-breaks-of-cases = refl

@@ -29,4 +29,6 @@ pub mod FormatAnswered
 pub mod ClaimWords
 pub mod LineFiles
 pub mod FormatLimits
+pub mod LiteralBuffers
+pub mod LiteralArguments
 pub mod Printed

@@ -3,31 +3,41 @@
 use mathlib.Core.Bool.{Bool, false, not, true}
 use mathlib.Core.List.{List}
 use mathlib.Core.Logic.{_⊎_, inl, inr}
-use mathlib.Core.Path.{_∙_, _≡_, ap, refl, subst, sym}
-use Prim.Native.Nat.{_%_, _*_, _+_, _<_, _≤_, ℕ}
+use mathlib.Core.Path.{_∙_, _≡_, ap, ap₂, refl, subst, sym}
+use Prim.Native.Nat.{_%_, _*_, _+_, _-_, _<_, _≤_, ℕ}
 use native.Mathlib.Omega.{arith}
+use lib.Dec.{eqb}
 use lib.ListN.{length}
-use borrow.Author.Tests.{not-true}
+use borrow.Author.Tests.{ne-eqb}
 use Rattle.catalogue.proofs.Roomy.{roomy}
-use Rattle.layout.specs.Layout.{File, Layout, fileBlocks, findFile, found, freeBlocks, hasFile, isFound}
+use Rattle.layout.specs.Layout.{File, Layout, breaksOf, fileBlocks, findFile, found, freeBlocks, hasFile, isFound}
+use Rattle.layout.specs.Lists.{done, more, sumOf}
+use Rattle.layout.specs.Removing.{copiesOf, removal}
 use Rattle.manager.proofs.AddFromSound.{add-from-sound}
 use Rattle.manager.proofs.Contents.{length-paged}
 use Rattle.manager.proofs.Deciding.{Decides}
+use Rattle.manager.proofs.Judging.{none-applies}
 use Rattle.manager.proofs.LiteralBuffers.{ClearBelow, Gives, clear-disk, clear-next, encoded-bytes}
 use Rattle.manager.proofs.LiteralBuffers.{gives-lowest, one-layout}
-use Rattle.manager.proofs.OnSound.{check-on-sound}
+use Rattle.manager.proofs.OnSound.{breaks-on-sound, check-on-sound, free-on-sound}
 use Rattle.manager.proofs.ReadBack.{read-from-sound}
+use Rattle.manager.proofs.RemoveFromSound.{remove-from-sound}
 use Rattle.manager.proofs.TableRows.{decides-no-file}
-use Rattle.manager.specs.Call.{Call, add, breaks, check, read, remove}
-use Rattle.manager.specs.Conditions.{Outcome, answered}
-use Rattle.manager.specs.Outcomes.{addOutcome, checkReply, perform, readOutcome}
-use Rattle.manager.specs.Table.{CatalogueOf, NoFile, bufferLength, filesFull, idMissing, idOf, idThere, idZero}
-use Rattle.manager.specs.Table.{noSpace, pastEnd}
+use Rattle.manager.specs.Call.{Call, add, breaks, check, free, read, remove}
+use Rattle.manager.specs.Conditions.{Outcome, allowed, answered, condition, fileChecks, firstRefusal}
+use Rattle.manager.specs.Conditions.{replyUnless}
+use Rattle.manager.specs.Outcomes.{addOutcome, breaksFound, breaksReply, checkReply, freeReply, perform}
+use Rattle.manager.specs.Outcomes.{readOutcome, removeOutcome}
+use Rattle.manager.specs.Table.{By, CatalogueOf, NoFile, bufferLength, filesFull, idMissing, idOf, idThere}
+use Rattle.manager.specs.Table.{idZero, noSpace, pastEnd}
 
--- what holds passes its test
-decided : {A : Type 0} (b : Bool) → Decides A b → A → b ≡ true
-decided true t a = refl
-decided false t a = absurd (t .fails refl a)
+-- an id that no file has is not found
+not-found : (i : ℕ) (l : Layout) → NoFile i l → hasFile i (l .files) ≡ false
+not-found i l none = go (hasFile i (l .files)) (decides-no-file i l)
+  where
+    go : (b : Bool) → Decides (NoFile i l) (not b) → b ≡ false
+    go false t = refl
+    go true t = absurd (t .fails refl none)
 
 -- a call that does not give a number
 never-by : false ≡ true → ⊥
@@ -52,12 +62,11 @@ module _ {cat : List ℕ} {l : Layout} (h : CatalogueOf cat l) (d : List ℕ) (l
   -- id 0 gives 5 from add, remove, read and breaks
   pub id-zero-refused : (p : ℕ) (bs o : List ℕ)
       → Gives cat d (add 0 bs) 5 × Gives cat d (remove 0) 5 × Gives cat d (read 0 p o) 5 × Gives cat d (breaks 0) 5
-  id-zero-refused p bs o = (
-    gives-lowest cat d (add 0 bs) (encoded-bytes h d) idZero refl refl (clear-disk h d ld (add 0 bs)),
-    gives-lowest cat d (remove 0) (encoded-bytes h d) idZero refl refl (clear-disk h d ld (remove 0)),
-    gives-lowest cat d (read 0 p o) (encoded-bytes h d) idZero refl refl (clear-disk h d ld (read 0 p o)),
-    gives-lowest cat d (breaks 0) (encoded-bytes h d) idZero refl refl (clear-disk h d ld (breaks 0)),
-  )
+  id-zero-refused p bs o =
+      (zero (add 0 bs) refl refl, zero (remove 0) refl refl, zero (read 0 p o) refl refl, zero (breaks 0) refl refl)
+    where
+      zero : (c : Call) → By idZero c → idOf c ≡ 0 → Gives cat d c 5
+      zero c by e = gives-lowest cat d c (encoded-bytes h d) idZero by e (clear-disk h d ld c)
 
   module _ (i : ℕ) (some : 1 ≤ i) where
     clear-id : (c : Call) → idOf c ≡ i → Clear c 6
@@ -66,11 +75,11 @@ module _ {cat : List ℕ} {l : Layout} (h : CatalogueOf cat l) (d : List ℕ) (l
     -- an id that no file has gives 6 from remove, read and breaks
     pub missing-refused : NoFile i l → (p : ℕ) (o : List ℕ)
         → Gives cat d (remove i) 6 × Gives cat d (read i p o) 6 × Gives cat d (breaks i) 6
-    missing-refused none p o = (
-      gives-lowest cat d (remove i) (encoded-bytes h d) idMissing refl (l, h, none) (clear-id (remove i) refl),
-      gives-lowest cat d (read i p o) (encoded-bytes h d) idMissing refl (l, h, none) (clear-id (read i p o) refl),
-      gives-lowest cat d (breaks i) (encoded-bytes h d) idMissing refl (l, h, none) (clear-id (breaks i) refl),
-    )
+    missing-refused none p o =
+        (refuses (remove i) refl refl none, refuses (read i p o) refl refl none, refuses (breaks i) refl refl none)
+      where
+        refuses : (c : Call) → By idMissing c → idOf c ≡ i → NoFile (idOf c) l → Gives cat d c 6
+        refuses c by e x = gives-lowest cat d c (encoded-bytes h d) idMissing by (l, h, x) (clear-id c e)
 
     -- ---- adds
 
@@ -117,10 +126,8 @@ module _ {cat : List ℕ} {l : Layout} (h : CatalogueOf cat l) (d : List ℕ) (l
               → perform (add i bs) cat d .reply ≡ answered k
           add-answers most few fits =
               let w = length-paged bs k (pages .0) (pages .1) in
-              let new : hasFile i (l .files) ≡ false =
-              not-true (hasFile i (l .files)) (decided (not (hasFile i (l .files))) (decides-no-file i l) fresh) in
               ap (λ x. addOutcome i bs x d .reply) (h .encoded)
-              ∙ (add-from-sound (h .version) (roomy (h .known)) l (h .rules) d ld i bs some most new (w .0) few
+              ∙ (add-from-sound (h .version) (roomy (h .known)) l (h .rules) d ld i bs some most (not-found i l fresh) (w .0) few
               (subst (λ n. n ≤ freeBlocks l) (sym (w .1)) fits) .reply
               ∙ ap answered (w .1))
 
@@ -128,10 +135,7 @@ module _ {cat : List ℕ} {l : Layout} (h : CatalogueOf cat l) (d : List ℕ) (l
 
     module _ (f : File) (e : findFile i (l .files) ≡ found f) (p : ℕ) (o : List ℕ) where
       there : NoFile i l → ⊥
-      there none =
-          let new = not-true (hasFile i (l .files))
-          (decided (not (hasFile i (l .files))) (decides-no-file i l) none) in
-          never-by (sym new ∙ ap isFound e)
+      there none = never-by (sym (not-found i l none) ∙ ap isFound e)
 
       clear-found : Clear (read i p o) 8
       clear-found = clear-next cat d (read i p o) idThere
@@ -162,7 +166,33 @@ module _ {cat : List ℕ} {l : Layout} (h : CatalogueOf cat l) (d : List ℕ) (l
             (subst (λ n. p + n ≤ fileBlocks f) (sym (w .1)) within))
             ∙ ap answered (w .1))
 
-  -- a check answers C
+  -- ---- the other answers
+
+  -- a check answers C, free what is left of it by the files
   pub check-answers : perform check cat d .reply ≡ answered (l .blocks)
   check-answers =
       ap (λ x. checkReply x d) (h .encoded) ∙ check-on-sound (h .version) (roomy (h .known)) l (h .rules) d ld
+
+  pub free-answers : perform free cat d .reply ≡ answered (l .blocks - sumOf fileBlocks (l .files))
+  free-answers = ap freeReply (h .encoded) ∙ free-on-sound (h .version) (roomy (h .known)) l (h .rules)
+
+  module _ (i : ℕ) (some : 1 ≤ i) (f : File) (e : findFile i (l .files) ≡ found f) where
+    -- a removal answers the copies of its merges
+    pub remove-answers : perform (remove i) cat d .reply ≡ answered (length (copiesOf (removal 21 f l)))
+    remove-answers =
+        ap (λ x. removeOutcome i x d .reply) (h .encoded)
+        ∙ remove-from-sound (h .version) (roomy (h .known)) l (h .rules) d ld i f e some .reply
+
+    -- breaks the pieces less one
+    pub breaks-answers : perform (breaks i) cat d .reply ≡ answered (length (f .pieces) - 1)
+    unfolding breaksOf
+    breaks-answers =
+        ap (breaksReply i) (h .encoded)
+        ∙ (breaks-on-sound (h .version) (roomy (h .known)) l (h .rules) i
+        ∙ ap₂ (λ j x. replyUnless j (breaksFound x)) passed e)
+      where
+        passed : firstRefusal (fileChecks i l) ≡ allowed
+        passed =
+            none-applies
+            (more {a = condition 5 (eqb i 0)} (ne-eqb i 0 (λ z. omega arith))
+            (more {a = condition 6 (not (hasFile i (l .files)))} (ap (λ x. not (isFound x)) e) done))

@@ -11,5 +11,6 @@ pub mod ReadOnly
 pub mod ReadOnlyLayout
 pub mod Reading
 pub mod Versions
-pub mod CaseSeven
+pub mod CaseLayouts
+pub mod ByteCases
 pub mod LargePairs

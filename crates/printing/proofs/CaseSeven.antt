@@ -1,7 +1,7 @@
 -- The text of case 7 of document 01, literally. Assumes nothing.
 use mathlib.Core.List.{[], _∷_}
 use mathlib.Core.Path.{_≡_, refl}
-use Rattle.catalogue.specs.Cases.{caseSeven}
+use Rattle.catalogue.proofs.CaseLayouts.{caseSeven}
 use Rattle.layout.specs.Lists.{insertBy, sortBy}
 use Rattle.manager.specs.Printing.{allFileLines, decimalIn, fileLines, firstLine, layoutText, pairLine, pairLines}
 use Rattle.manager.specs.Printing.{refusalText}

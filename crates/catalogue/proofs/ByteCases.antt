@@ -1,5 +1,5 @@
--- The bytes of cases 3, 7, 8 and 11 of document 01, literally, in both versions: header, a line for each file's entry, the
--- free pairs, and the zero bytes that follow. Assumes nothing.
+-- The bytes of cases 3, 7, 8 and 11 of document 01, literally, in both versions: header, a line for each file's entry,
+-- the free pairs, and for case 8 the zero bytes to the end. Assumes nothing.
 use mathlib.Core.List.{[], _∷_}
 use mathlib.Core.Path.{_≡_, refl}
 use lib.ListN.{replicate}

@@ -14,3 +14,8 @@ pub mod Versions
 pub mod CaseLayouts
 pub mod ByteCases
 pub mod LargePairs
+pub mod WrittenFields
+pub mod UnsoundRows
+pub mod UnsoundCases
+pub mod SoundCases
+pub mod GreatestDisk

@@ -22,11 +22,11 @@ use Rattle.section.proofs.Multiples.{below-or-not}
 use Rattle.section.specs.Sections.{lengthOf}
 use Rattle.section.specs.declared.Section.{Section}
 
-ones-of-zero : ones 0 ≡ 0
+pub ones-of-zero : ones 0 ≡ 0
 unfolding ones onesIn
 ones-of-zero = refl
 
-ones-of-one : ones 1 ≡ 1
+pub ones-of-one : ones 1 ≡ 1
 unfolding ones onesIn
 ones-of-one = refl
 

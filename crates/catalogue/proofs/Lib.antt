@@ -11,6 +11,7 @@ pub mod ReadOnly
 pub mod ReadOnlyLayout
 pub mod Reading
 pub mod Versions
+pub mod FieldLimits
 pub mod CaseLayouts
 pub mod ByteCases
 pub mod LargePairs

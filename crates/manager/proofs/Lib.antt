@@ -32,3 +32,4 @@ pub mod FormatLimits
 pub mod LiteralBuffers
 pub mod LiteralArguments
 pub mod Printed
+pub mod PrintedCases

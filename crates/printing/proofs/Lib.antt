@@ -3,4 +3,3 @@ pub mod Rows
 pub mod TextRoom
 pub mod FileLines
 pub mod SoundTables
-pub mod CaseSeven

@@ -3,7 +3,7 @@
 use mathlib.Core.List.{[], _∷_}
 use mathlib.Core.Path.{_≡_, refl}
 use lib.ListN.{replicate}
-use Rattle.catalogue.proofs.CaseLayouts.{caseEight, caseEleven, caseSeven, caseThree}
+use Rattle.catalogue.specs.Cases.{caseEight, caseEleven, caseSeven, caseThree}
 use Rattle.catalogue.specs.Encoding.{bigEndian, encode, entriesBytes, entryBytes, headerBytes, pairBytes}
 use Rattle.catalogue.specs.Encoding.{pairsBytes, usedBytes}
 use Rattle.catalogue.specs.Version.{version1, version2}

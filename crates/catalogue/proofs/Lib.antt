@@ -12,7 +12,6 @@ pub mod ReadOnlyLayout
 pub mod Reading
 pub mod Versions
 pub mod FieldLimits
-pub mod CaseLayouts
 pub mod ByteCases
 pub mod LargePairs
 pub mod WrittenFields

@@ -3,3 +3,4 @@ pub mod Version
 pub mod Encoding
 pub mod Reading
 pub mod Roomy
+pub mod Cases

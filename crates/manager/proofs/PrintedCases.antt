@@ -7,7 +7,7 @@ use Prim.Native.Nat.{ℕ}
 use Prim.Native.String.{String}
 use Prim.Native.String as String·
 use lib.ListN.{replicate}
-use Rattle.catalogue.proofs.CaseLayouts.{caseEight, caseEleven, caseSeven, caseThree}
+use Rattle.catalogue.specs.Cases.{caseEight, caseEleven, caseSeven, caseThree}
 use Rattle.catalogue.specs.Reading.{judged, readCatalogue, readFrom, readHeader, readLayout}
 use Rattle.catalogue.specs.Version.{versionFor}
 use Rattle.layout.specs.Layout.{Layout}

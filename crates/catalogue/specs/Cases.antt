@@ -1,5 +1,5 @@
 -- The layouts of cases 3, 7, 8 and 11 of document 01, whose bytes and texts stand literally elsewhere. Pieces are in
--- page order, longest first. Assumes nothing.
+-- page order, longest first. Definitions only.
 use mathlib.Core.List.{[], _∷_}
 use Rattle.layout.specs.Layout.{Layout}
 use Rattle.section.specs.Sections.{section}

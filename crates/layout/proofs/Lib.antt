@@ -40,6 +40,7 @@ pub mod Soundness
 pub mod SoundHeights
 pub mod PerOne
 pub mod SoundPieces
+pub mod AllocatedPieces
 pub mod OnDisk
 pub mod MergeDue
 pub mod SoundCases

@@ -10,22 +10,11 @@ use Rattle.layout.proofs.Cover.{covers-size}
 use Rattle.layout.proofs.Fresh.{laid}
 use Rattle.layout.proofs.Lists.{pairwise-imp}
 use Rattle.layout.proofs.Ones.{distinct-ones}
+use Rattle.layout.specs.Covering.{FreshPieces, RunFrom, none, then}
 use Rattle.layout.specs.Layout.{Layout, OnePiecePerOne, digit, freshLayout, inRange, piecesFrom}
 use Rattle.layout.specs.Lists.{Pairwise}
 use Rattle.section.specs.Sections.{endOf, lengthOf, section}
 use Rattle.section.specs.declared.Section.{Section}
-
--- the first begins at x, and each other where the one before it ends
-pub data RunFrom : ℕ → List Section → Type 0 where
-  none : {x : ℕ} → RunFrom x []
-  then : {x : ℕ} {s : Section} {l : List Section} → s .first ≡ x → RunFrom (endOf s) l → RunFrom x (s ∷ l)
-
-pub record FreshPieces (c : ℕ) (l : Layout) : Type 0 where
-  pub blocks : l .blocks ≡ c
-  pub files : l .files ≡ []
-  pub ones : OnePiecePerOne c (l .free)
-  pub longest-first : Pairwise (λ (s t : Section). lengthOf t < lengthOf s) (l .free)
-  pub in-row : RunFrom 0 (l .free)
 
 run : (k n x : ℕ) → RunFrom x (piecesFrom k n x)
 unfolding piecesFrom

@@ -8,32 +8,12 @@ use Rattle.layout.proofs.Lists.{each-all, each-and, each-imp, sum-inser
 use Rattle.layout.proofs.MovedPieces.{section-eta}
 use Rattle.layout.proofs.Taking.{TakesOf, nothing-height, takeFirst-is, takes-height}
 use Rattle.layout.specs.Adding.{Taken, nothing, orElse, splitAt, takeFirst, takePiece, taken}
+use Rattle.layout.specs.Allocations.{ComesFrom, upperHalves}
 use Rattle.layout.specs.Layout.{byFirst, hasHeight}
 use Rattle.layout.specs.Lists.{Each, insertBy, sumOf}
 use Rattle.section.specs.Sections.{section}
 use Rattle.section.specs.declared.Section.{Section}
 use Rattle.layout.specs.Choices.{Takes}
-
--- the upper halves of m splits, of the heights from h up, of what begins at x
-pub upperHalves : ℕ → ℕ → ℕ → List Section
-upperHalves zero h x = []
-upperHalves (suc m) h x = section (x + 2 ^ h) h ∷ upperHalves m (suc h) x
-
--- how s of height h comes out of the free pieces, at most k heights up, and leaves r
-pub record ComesFrom (k h : ℕ) (free : List Section) (s : Section) (r : List Section) : Type 0 where
-  -- the free piece that is taken, the lowest of its height, and the others
-  pub source : Section
-  pub others : List Section
-  pub listed : Takes (hasHeight (source .height .value)) free source others
-  -- it is split as often as it is higher, and no free piece between the two heights is passed over
-  pub splits : ℕ
-  pub height : source .height .value ≡ h + splits
-  pub reach : splits ≤ k
-  pub lowest : Each (λ (a : Section). h ≤ a .height .value → a .height .value < source .height .value → ⊥) free
-  -- the lower half is used each time
-  pub piece : s ≡ section (source .first) h
-  -- and the upper halves join the others
-  pub rest : (w : Section → ℕ) → sumOf w r ≡ sumOf w others + sumOf w (upperHalves splits h (source .first))
 
 abbrev ComesFromOf : ℕ → ℕ → List Section → Taken → Type 0
 ComesFromOf k h free (taken s r) = ComesFrom k h free s r

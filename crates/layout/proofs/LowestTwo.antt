@@ -22,27 +22,10 @@ use Rattle.layout.specs.Removing.{layoutAfter, lowestTwo, merge, mergeAl
 use Rattle.layout.specs.Removing.{removal, withoutFile}
 use Rattle.section.specs.Sections.{buddyFirst, buddyOf, isInside, movedInto, parentFirst, section}
 use Rattle.section.specs.declared.Section.{Section}
-use Rattle.layout.specs.Choices.{BuddiesOf, LowestOf, MergeableOf}
+use Rattle.layout.specs.Choices.{AreLowest, BuddiesOf, LowestOf, MergeableOf, NoTwoBuddies, RisingStrictly}
 use Rattle.layout.specs.Cases.{copy, file, removed}
 
 -- ---- the law
-
--- by rising first block, no two at one
-abbrev pub RisingStrictly : List Section → Type 0
-RisingStrictly l = Pairwise (λ (s t : Section). s .first < t .first) l
-
--- no two of height h are buddies
-abbrev pub NoTwoBuddies : ℕ → List Section → Type 0
-NoTwoBuddies h free =
-    Each (λ (l : Section). Each (λ (u : Section). l .height .value ≡ h → u .height .value ≡ h
-    → buddyOf l .first ≡ u .first → ⊥) free) free
-
--- L and U are of height h, L is below U, and every other of height h begins above U
-pub record AreLowest (h : ℕ) (l u : Section) (r : List Section) : Type 0 where
-  pub low : l .height .value ≡ h
-  pub high : u .height .value ≡ h
-  pub order : l .first < u .first
-  pub above : Each (λ (s : Section). s .height .value ≡ h → u .first < s .first) r
 
 -- none are taken as buddies where no two are
 no-buddies-taken : (h : ℕ) (free : List Section) → NoTwoBuddies h free → buddyPair h free ≡ fewer

@@ -7,7 +7,7 @@ use Rattle.section.specs.Sections.{buddyOf}
 use Rattle.section.specs.declared.Section.{Section}
 use Rattle.layout.specs.Covering.{Rising, countOf}
 use Rattle.layout.specs.Layout.{OnDisk}
-use Rattle.layout.specs.Lists.{Each, indicator, sumOf}
+use Rattle.layout.specs.Lists.{Each, Pairwise, indicator, sumOf}
 use Rattle.layout.specs.Removing.{MergePair, fewer, hasFreeBuddy, isBuddyAbove, pair}
 
 -- s is the first in l that passes the test, and r the others
@@ -62,3 +62,20 @@ MergeableOf h free fewer = countOf h free ≤ 1
 abbrev pub LowestOf : ℕ → MergePair → Type 0
 LowestOf h (pair l u r) = Each (λ (s : Section). s .height .value ≡ h → u .first ≤ s .first) r
 LowestOf h fewer = _≡_ {A = ℕ} 0 0
+
+-- by rising first block, no two at one
+abbrev pub RisingStrictly : List Section → Type 0
+RisingStrictly l = Pairwise (λ (s t : Section). s .first < t .first) l
+
+-- no two of height h are buddies
+abbrev pub NoTwoBuddies : ℕ → List Section → Type 0
+NoTwoBuddies h free =
+    Each (λ (l : Section). Each (λ (u : Section). l .height .value ≡ h → u .height .value ≡ h
+    → buddyOf l .first ≡ u .first → ⊥) free) free
+
+-- L and U are of height h, L is below U, and every other of height h begins above U
+pub record AreLowest (h : ℕ) (l u : Section) (r : List Section) : Type 0 where
+  pub low : l .height .value ≡ h
+  pub high : u .height .value ≡ h
+  pub order : l .first < u .first
+  pub above : Each (λ (s : Section). s .height .value ≡ h → u .first < s .first) r

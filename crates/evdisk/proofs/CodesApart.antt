@@ -1,9 +1,9 @@
 -- The number that comes back tells a refusal from an answer, and one refusal from another. Assumes nothing.
-use mathlib.Core.List.{List, [], _∷_, map}
+use mathlib.Core.List.{[], _∷_, map}
 use mathlib.Core.Path.{_≡_, ap, refl}
 use Prim.Native.Nat.{suc, zero, _≤_, ℕ}
 use native.Mathlib.Omega.{arith}
-use lib.IntN.{ℤ, negsuc, pos}
+use lib.IntN.{negsuc, pos}
 use Rattle.looking.specs.Answers.{replyOf}
 use Rattle.looking.specs.declared.Answer.{Answer}
 use Rattle.looking.specs.declared.Answer.the-variants as Answer·

@@ -15,7 +15,7 @@ use Rattle.manager.proofs.Untouched.{format-keeps-disk}
 use Rattle.manager.proofs.WholeList.{whole-list}
 use Rattle.manager.specs.Book.{Book, BookReply, answers, anyNumber, freshBook, inBook, refuses}
 use Rattle.manager.specs.Call.{Call, ListedCall, add, breaks, check, free, outputOf, read, remove}
-use Rattle.manager.specs.Conditions.{Outcome, Reply, answered, refused}
+use Rattle.manager.specs.Conditions.{Reply, answered, refused}
 use Rattle.manager.specs.Outcomes.{formatOutcome, perform}
 use Rattle.manager.specs.WholeList.{Alters, CallAgrees, Follows, RepliesAgree, RightLengths}
 use Rattle.evdisk.proofs.CodesApart.{code-answer}

@@ -11,9 +11,8 @@ use Rattle.layout.proofs.Fresh.{laid}
 use Rattle.layout.proofs.Lists.{pairwise-imp}
 use Rattle.layout.proofs.Ones.{distinct-ones}
 use Rattle.layout.specs.Covering.{FreshPieces, RunFrom, none, then}
-use Rattle.layout.specs.Layout.{Layout, OnePiecePerOne, digit, freshLayout, inRange, piecesFrom}
-use Rattle.layout.specs.Lists.{Pairwise}
-use Rattle.section.specs.Sections.{endOf, lengthOf, section}
+use Rattle.layout.specs.Layout.{Layout, digit, freshLayout, inRange, piecesFrom}
+use Rattle.section.specs.Sections.{section}
 use Rattle.section.specs.declared.Section.{Section}
 
 run : (k n x : ℕ) → RunFrom x (piecesFrom k n x)

@@ -1,8 +1,8 @@
 -- The piece that is taken begins where the free piece begins that it is taken or split from: of every split the lower
 -- half is used, and the upper half joins the free pieces. `AddCases` has splits in literal numbers. Assumes nothing.
-use mathlib.Core.List.{List, [], _∷_}
+use mathlib.Core.List.{List}
 use mathlib.Core.Path.{_≡_, ap, subst, sym}
-use Prim.Native.Nat.{_+_, _<_, _^_, _≤_, suc, zero, ℕ}
+use Prim.Native.Nat.{_+_, _^_, suc, zero, ℕ}
 use native.Mathlib.Omega.{arith}
 use Rattle.layout.proofs.Lists.{each-all, each-and, each-imp, sum-insert}
 use Rattle.layout.proofs.MovedPieces.{section-eta}
@@ -10,7 +10,7 @@ use Rattle.layout.proofs.Taking.{TakesOf, nothing-height, takeFirst-is,
 use Rattle.layout.specs.Adding.{Taken, nothing, orElse, splitAt, takeFirst, takePiece, taken}
 use Rattle.layout.specs.Allocations.{ComesFrom, upperHalves}
 use Rattle.layout.specs.Layout.{byFirst, hasHeight}
-use Rattle.layout.specs.Lists.{Each, insertBy, sumOf}
+use Rattle.layout.specs.Lists.{Each, insertBy}
 use Rattle.section.specs.Sections.{section}
 use Rattle.section.specs.declared.Section.{Section}
 use Rattle.layout.specs.Choices.{Takes}

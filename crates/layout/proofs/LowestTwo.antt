@@ -16,11 +16,11 @@ use Rattle.layout.proofs.Occurs.{occurs-none, occurs-one}
 use Rattle.layout.proofs.Taking.{takes-each}
 use Rattle.layout.specs.Adding.{takeFirst}
 use Rattle.layout.specs.Layout.{filePieces, inRange}
-use Rattle.layout.specs.Lists.{Each, Pairwise, done, indicator, insertBy, more, next, none, sortBy, sumOf}
+use Rattle.layout.specs.Lists.{Each, done, indicator, insertBy, more, next, none, sortBy, sumOf}
 use Rattle.layout.specs.Removing.{MergePair, buddyPair, copiesFrom, copiesOf, copyRun, fewer, insertAll}
 use Rattle.layout.specs.Removing.{layoutAfter, lowestTwo, merge, mergeAll, mergePair, nextMerge, pair, release}
 use Rattle.layout.specs.Removing.{removal, withoutFile}
-use Rattle.section.specs.Sections.{buddyFirst, buddyOf, isInside, movedInto, parentFirst, section}
+use Rattle.section.specs.Sections.{buddyFirst, isInside, movedInto, parentFirst, section}
 use Rattle.section.specs.declared.Section.{Section}
 use Rattle.layout.specs.Choices.{AreLowest, BuddiesOf, LowestOf, MergeableOf, NoTwoBuddies, RisingStrictly}
 use Rattle.layout.specs.Cases.{copy, file, removed}

@@ -1,5 +1,5 @@
 -- The order of merges: a removal merges at most once at each height, from low to high. Assumes nothing.
-use mathlib.Core.List.{List, [], _∷_}
+use mathlib.Core.List.{List}
 use mathlib.Core.Path.{_≡_, subst, sym}
 use Prim.Native.Nat.{_/_, _<_, _^_, _≤_, suc, ℕ}
 use native.Mathlib.Decide.{decLt, ℕ-discrete}

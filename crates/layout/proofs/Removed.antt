@@ -16,11 +16,10 @@ use Rattle.layout.proofs.MergeAll.{mergeAll-is, merged-blocks, merged-f
 use Rattle.layout.proofs.MergeAll.{merged-whole}
 use Rattle.layout.proofs.SoundSums.{falling-of, free-is}
 use Rattle.layout.proofs.Taking.{insert-rising}
-use Rattle.layout.specs.Carries.{carries}
 use Rattle.layout.specs.Layout.{File, Layout, OnDisk, allPieces, byFirst, fileBlocks, filePieces, freeBlocks}
 use Rattle.layout.specs.Layout.{digit, holdsBlock, ofHeight}
 use Rattle.layout.specs.Lists.{Each, Zipped, done, more, sumOf}
-use Rattle.layout.specs.Removing.{Merge, copiesOf, insertAll, layoutAfter, release, removal, withoutFile}
+use Rattle.layout.specs.Removing.{copiesOf, insertAll, layoutAfter, release, removal, withoutFile}
 use Rattle.section.specs.declared.Section.{Section}
 use Rattle.layout.specs.Removals.{Find, Removes}
 use Rattle.layout.specs.Covering.{Covers, Rising, Whole, countOf}

@@ -6,7 +6,7 @@ use Prim.Native.Nat.{ℕ}
 use native.Mathlib.Omega.{arith}
 use lib.Dec.{eqb, ltb}
 use lib.ListN.{length}
-use borrow.Author.Tests.{eqb-true, ltb-false, not-false}
+use borrow.Author.Tests.{eqb-true, ltb-false}
 use Rattle.catalogue.proofs.Roomy.{version-of-one}
 use Rattle.catalogue.specs.Encoding.{encode}
 use Rattle.catalogue.specs.Version.{greatestBlocks, versionFor}

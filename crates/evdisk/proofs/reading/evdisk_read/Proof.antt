@@ -1,5 +1,5 @@
 -- `evdisk::reading::evdisk_read` meets its contract: the outcome of the call, its answer as a number. Assumes nothing.
-use mathlib.Core.Path.{_∙_, ap, refl}
+use mathlib.Core.Path.{_∙_, ap}
 use borrow.Author.Needs.{needs}
 use Rattle.evdisk.specs.Codes.{codeOf}
 use Rattle.evdisk.proofs.reading.evdisk_read.Statement.{statement}

@@ -31,5 +31,6 @@ pub mod LineFiles
 pub mod FormatLimits
 pub mod LiteralBuffers
 pub mod LiteralArguments
+pub mod LiteralCases
 pub mod Printed
 pub mod PrintedCases

@@ -54,16 +54,16 @@ fresh = 0 ∷ 1 ∷ 0 ∷ 5 ∷ 0 ∷ 0 ∷ 0 ∷ 0 ∷ 0 ∷ 4 ∷ 0 ∷ 4 ∷ 
 abbrev withOne : List ℕ
 withOne = 0 ∷ 1 ∷ 0 ∷ 5 ∷ 0 ∷ 1 ∷ 0 ∷ 1 ∷ 0 ∷ 1 ∷ 0 ∷ 4 ∷ 0 ∷ 1 ∷ 0 ∷ 0 ∷ 0 ∷ 4 ∷ []
 
--- id 1 at (4,1), id 2 at (0,2) (2,1), free (3,1)
+-- id 1 at (4,1), id 65,535 at (0,2) (2,1), free (3,1)
 abbrev withTwo : List ℕ
 withTwo =
-    0 ∷ 1 ∷ 0 ∷ 5 ∷ 0 ∷ 2 ∷ 0 ∷ 1 ∷ 0 ∷ 1 ∷ 0 ∷ 4 ∷ 0 ∷ 1 ∷ 0 ∷ 2 ∷ 0 ∷ 3 ∷ 0 ∷ 0 ∷ 0 ∷ 2 ∷ 0 ∷ 2 ∷ 0 ∷ 1
+    0 ∷ 1 ∷ 0 ∷ 5 ∷ 0 ∷ 2 ∷ 0 ∷ 1 ∷ 0 ∷ 1 ∷ 0 ∷ 4 ∷ 0 ∷ 1 ∷ 255 ∷ 255 ∷ 0 ∷ 3 ∷ 0 ∷ 0 ∷ 0 ∷ 2 ∷ 0 ∷ 2 ∷ 0 ∷ 1
     ∷ 0 ∷ 3 ∷ 0 ∷ 1 ∷ []
 
--- id 2 at (0,2) (4,1), free (2,2)
+-- id 65,535 at (0,2) (4,1), free (2,2)
 abbrev afterRemoval : List ℕ
 afterRemoval =
-    0 ∷ 1 ∷ 0 ∷ 5 ∷ 0 ∷ 1 ∷ 0 ∷ 2 ∷ 0 ∷ 3 ∷ 0 ∷ 0 ∷ 0 ∷ 2 ∷ 0 ∷ 4 ∷ 0 ∷ 1 ∷ 0 ∷ 2 ∷ 0 ∷ 2 ∷ []
+    0 ∷ 1 ∷ 0 ∷ 5 ∷ 0 ∷ 1 ∷ 255 ∷ 255 ∷ 0 ∷ 3 ∷ 0 ∷ 0 ∷ 0 ∷ 2 ∷ 0 ∷ 4 ∷ 0 ∷ 1 ∷ 0 ∷ 2 ∷ 0 ∷ 2 ∷ []
 
 -- the disk before format, and after the adds
 abbrev untouched : List ℕ
@@ -74,19 +74,19 @@ written = blocks (32 ∷ 33 ∷ 34 ∷ 255 ∷ 16 ∷ [])
 
 -- ---- a list of calls
 
--- format, two adds, reads of parts, breaks, free and check, and a removal that copies the last page of id 2: the whole
+-- format, two adds, reads of parts, breaks, check, a removal that copies the last page of id 65,535, and free: the whole
 -- outcome of each, on the bytes that the one before it left
 pub calls-computed :
     (formatOutcome (replicate 4096 255) untouched
     ∷ perform (add 1 (blocks (16 ∷ []))) (bytes 4096 fresh) untouched
-    ∷ perform (add 2 (blocks (32 ∷ 33 ∷ 34 ∷ []))) (bytes 4096 withOne) (blocks (255 ∷ 255 ∷ 255 ∷ 255 ∷ 16 ∷ []))
-    ∷ perform (read 2 0 (replicate 512 0)) (bytes 4096 withTwo) written
-    ∷ perform (read 2 1 (replicate 1024 0)) (bytes 4096 withTwo) written
-    ∷ perform (breaks 2) (bytes 4096 withTwo) written
-    ∷ perform free (bytes 4096 withTwo) written
+    ∷ perform (add 65535 (blocks (32 ∷ 33 ∷ 34 ∷ []))) (bytes 4096 withOne) (blocks (255 ∷ 255 ∷ 255 ∷ 255 ∷ 16 ∷ []))
+    ∷ perform (read 65535 0 (replicate 512 0)) (bytes 4096 withTwo) written
+    ∷ perform (read 65535 1 (replicate 1024 0)) (bytes 4096 withTwo) written
+    ∷ perform (breaks 65535) (bytes 4096 withTwo) written
     ∷ perform check (bytes 4096 withTwo) written
     ∷ perform (remove 1) (bytes 4096 withTwo) written
-    ∷ perform (read 2 2 (replicate 512 0)) (bytes 4096 afterRemoval) (blocks (32 ∷ 33 ∷ 34 ∷ 255 ∷ 34 ∷ []))
+    ∷ perform (read 65535 2 (replicate 512 0)) (bytes 4096 afterRemoval) (blocks (32 ∷ 33 ∷ 34 ∷ 255 ∷ 34 ∷ []))
+    ∷ perform free (bytes 4096 afterRemoval) (blocks (32 ∷ 33 ∷ 34 ∷ 255 ∷ 34 ∷ []))
     ∷ [])
     ≡ outcome (answered 5) (bytes 4096 fresh) untouched []
     ∷ outcome (answered 1) (bytes 4096 withOne) (blocks (255 ∷ 255 ∷ 255 ∷ 255 ∷ 16 ∷ [])) []
@@ -94,13 +94,27 @@ pub calls-computed :
     ∷ outcome (answered 1) (bytes 4096 withTwo) written (blocks (32 ∷ []))
     ∷ outcome (answered 2) (bytes 4096 withTwo) written (blocks (33 ∷ 34 ∷ []))
     ∷ outcome (answered 1) (bytes 4096 withTwo) written []
-    ∷ outcome (answered 1) (bytes 4096 withTwo) written []
     ∷ outcome (answered 5) (bytes 4096 withTwo) written []
     ∷ outcome (answered 1) (bytes 4096 afterRemoval) (blocks (32 ∷ 33 ∷ 34 ∷ 255 ∷ 34 ∷ [])) []
     ∷ outcome (answered 1) (bytes 4096 afterRemoval) (blocks (32 ∷ 33 ∷ 34 ∷ 255 ∷ 34 ∷ [])) (blocks (34 ∷ []))
+    ∷ outcome (answered 2) (bytes 4096 afterRemoval) (blocks (32 ∷ 33 ∷ 34 ∷ 255 ∷ 34 ∷ [])) []
     ∷ []
 unfolding computed
 calls-computed = refl
+
+-- a removal that copies a page twice, from block 0 to 2 and on to 6: id 1 at (2,1), id 2 at (0,1), id 3 at (4,2) (3,1),
+-- free (1,1) (6,2) on eight blocks; then id 2 at (6,1), id 3 at (4,2) (7,1), free (0,4)
+pub removal-computed :
+    perform (remove 1)
+    (bytes 4096 (0 ∷ 1 ∷ 0 ∷ 8 ∷ 0 ∷ 3 ∷ 0 ∷ 1 ∷ 0 ∷ 1 ∷ 0 ∷ 2 ∷ 0 ∷ 1 ∷ 0 ∷ 2 ∷ 0 ∷ 1 ∷ 0 ∷ 0 ∷ 0 ∷ 1
+    ∷ 0 ∷ 3 ∷ 0 ∷ 3 ∷ 0 ∷ 3 ∷ 0 ∷ 1 ∷ 0 ∷ 4 ∷ 0 ∷ 2 ∷ 0 ∷ 1 ∷ 0 ∷ 1 ∷ 0 ∷ 6 ∷ 0 ∷ 2 ∷ []))
+    (blocks (0 ∷ 1 ∷ 2 ∷ 3 ∷ 4 ∷ 5 ∷ 6 ∷ 7 ∷ []))
+    ≡ outcome (answered 3)
+    (bytes 4096 (0 ∷ 1 ∷ 0 ∷ 8 ∷ 0 ∷ 2 ∷ 0 ∷ 2 ∷ 0 ∷ 1 ∷ 0 ∷ 6 ∷ 0 ∷ 1 ∷ 0 ∷ 3 ∷ 0 ∷ 3 ∷ 0 ∷ 4 ∷ 0 ∷ 2 ∷ 0 ∷ 7 ∷ 0 ∷ 1
+    ∷ 0 ∷ 0 ∷ 0 ∷ 4 ∷ []))
+    (blocks (0 ∷ 1 ∷ 0 ∷ 3 ∷ 4 ∷ 5 ∷ 0 ∷ 3 ∷ [])) []
+unfolding computed
+removal-computed = refl
 
 -- ---- refusals
 
@@ -111,10 +125,10 @@ Refuses cat d n calls =
 
 -- a call of each kind that is answered on the right buffers; of those the ones that get the disk
 abbrev plain : List Call
-plain = add 3 (replicate 512 0) ∷ remove 1 ∷ read 2 0 (replicate 512 0) ∷ breaks 2 ∷ free ∷ check ∷ []
+plain = add 3 (replicate 512 0) ∷ remove 1 ∷ read 65535 0 (replicate 512 0) ∷ breaks 65535 ∷ free ∷ check ∷ []
 
 abbrev onDisk : List Call
-onDisk = add 3 (replicate 512 0) ∷ remove 1 ∷ read 2 0 (replicate 512 0) ∷ check ∷ []
+onDisk = add 3 (replicate 512 0) ∷ remove 1 ∷ read 65535 0 (replicate 512 0) ∷ check ∷ []
 
 -- catalogues of 4,095 and 4,097 bytes; one with a byte after its end; disks one byte shorter and longer than five
 -- blocks
@@ -129,11 +143,11 @@ buffers-refused = (refl, refl, refl, refl, refl)
 pub arguments-refused :
     Refuses (bytes 4096 withTwo) written 5 (add 0 [] ∷ remove 0 ∷ read 0 0 [] ∷ breaks 0 ∷ [])
     × Refuses (bytes 4096 withTwo) written 6 (remove 3 ∷ read 3 0 [] ∷ breaks 3 ∷ [])
-    × Refuses (bytes 4096 withTwo) written 7 (add 2 [] ∷ [])
+    × Refuses (bytes 4096 withTwo) written 7 (add 65535 [] ∷ [])
     × Refuses (bytes 4096 withTwo) written 8
-    (add 3 [] ∷ add 3 (replicate 511 0) ∷ add 3 (replicate 513 0) ∷ read 2 9 [] ∷ read 2 0 (replicate 511 0)
-    ∷ read 2 0 (replicate 513 0) ∷ [])
-    × Refuses (bytes 4096 withTwo) written 9 (read 2 3 (replicate 512 0) ∷ read 2 2 (replicate 1024 0) ∷ [])
+    (add 3 [] ∷ add 3 (replicate 511 0) ∷ add 3 (replicate 513 0) ∷ read 65535 9 [] ∷ read 65535 0 (replicate 511 0)
+    ∷ read 65535 0 (replicate 513 0) ∷ [])
+    × Refuses (bytes 4096 withTwo) written 9 (read 65535 3 (replicate 512 0) ∷ read 65535 2 (replicate 1024 0) ∷ [])
     × Refuses (bytes 4096 withTwo) written 11 (add 3 (replicate 1024 0) ∷ [])
 unfolding computed
 arguments-refused = (refl, refl, refl, refl, refl, refl)

@@ -1,6 +1,6 @@
--- Cases 1 to 11 with the large catalogue, in groups, since each call computes over 16,384 bytes, and without the rows of
--- cases 4 to 6, which case 7 goes through; the removals and lengths beyond these cases; and the bytes of case 7. Assumes
--- nothing.
+-- Cases 1 to 11 with the large catalogue, in groups, since each call computes over 16,384 bytes, and without the rows
+-- of cases 4 to 6, which case 7 goes through; the removals and lengths beyond these cases; and the bytes of case 7.
+-- Assumes nothing.
 use mathlib.Core.List.{List, _++_, map}
 use mathlib.Core.Path.{_≡_, refl}
 use Prim.Native.Nat.{_-_, ℕ}

@@ -1,6 +1,6 @@
 -- Removals with two free buddies among the sections of a height, as rows of the table of cases, written out by hand
--- (document 02, W7): they are merged first, and nothing is copied for that; and one with three of which no two are buddies,
--- so that the two lowest are merged. Definitions only.
+-- (document 02, W7): they are merged first, and nothing is copied for that; and one with three of which no two are
+-- buddies, so that the two lowest are merged. Definitions only.
 use mathlib.Core.List.{List, [], _∷_}
 use Rattle.layout.specs.Layout.{Layout}
 use Rattle.case_table.specs.CaseRows.{Row, answer, contentOf, copied, fileSeen, fileWith, freshDisk}

@@ -1,5 +1,5 @@
--- Contents and outputs of literal lengths, one byte off on both sides of one and of two blocks, as a row of the table of
--- cases, written out by hand. Definitions only.
+-- Contents and outputs of literal lengths, one byte off on both sides of one and of two blocks, as a row of the table
+-- of cases, written out by hand. Definitions only.
 use mathlib.Core.List.{List, [], _∷_}
 use lib.ListN.{replicate}
 use Rattle.case_table.specs.CaseRows.{Row, answer, fileSeen, fileWith, freshDisk, laidOut, pagesRead, pairAt}

@@ -148,7 +148,8 @@ abbrev pub lengthTable : List RefusalRow
 lengthTable =
     map (λ n. row (filledUp n usedInSeven) sixteen (formatGives 1 ∷ all 1 plainCalls)) (4095 ∷ 4097 ∷ [])
     ++ map (λ n. row (filledUp n usedInLargeSeven) sixteen (formatGives 1 ∷ all 1 plainCalls)) (16383 ∷ 16385 ∷ [])
-    ++ map (λ n. row (unwritten n) (unwritten 8191) (formatGives 1 ∷ all 1 (wrongCalls ++ breaks 0 ∷ free ∷ check ∷ [])))
+    ++ map
+    (λ n. row (unwritten n) (unwritten 8191) (formatGives 1 ∷ all 1 (wrongCalls ++ breaks 0 ∷ free ∷ check ∷ [])))
     (0 ∷ 1 ∷ 4095 ∷ 4097 ∷ 16383 ∷ 16385 ∷ [])
 
 -- ---- versions that do not suit the buffer

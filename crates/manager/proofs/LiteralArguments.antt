@@ -1,5 +1,5 @@
--- The refusals 5 to 11 of the calls by literal numbers, on the catalogue of a sound layout with a disk of the right length:
--- pages of 512 bytes, at most 64 files, ids to 65,535; and what is answered if none of them applies. Assumes nothing.
+-- The refusals 5 to 11 of the calls by literal numbers, on the catalogue of a sound layout with a disk of the right
+-- length: pages of 512 bytes, at most 64 files, ids to 65,535; and what is answered if none applies. Assumes nothing.
 use mathlib.Core.Bool.{Bool, false, not, true}
 use mathlib.Core.List.{List}
 use mathlib.Core.Logic.{_⊎_, inl, inr}
@@ -127,7 +127,8 @@ module _ {cat : List ℕ} {l : Layout} (h : CatalogueOf cat l) (d : List ℕ) (l
           add-answers most few fits =
               let w = length-paged bs k (pages .0) (pages .1) in
               ap (λ x. addOutcome i bs x d .reply) (h .encoded)
-              ∙ (add-from-sound (h .version) (roomy (h .known)) l (h .rules) d ld i bs some most (not-found i l fresh) (w .0) few
+              ∙ (add-from-sound (h .version) (roomy (h .known)) l (h .rules) d ld i bs some most
+              (not-found i l fresh) (w .0) few
               (subst (λ n. n ≤ freeBlocks l) (sym (w .1)) fits) .reply
               ∙ ap answered (w .1))
 

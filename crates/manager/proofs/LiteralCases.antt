@@ -1,6 +1,6 @@
--- A list of calls on a disk of five blocks and every refusal, computed from literal bytes with the small catalogue: they
--- pin the definitions within this crate. The table of all cases, in both versions, is the crate `case_table`. Assumes
--- nothing.
+-- A list of calls on a disk of five blocks and every refusal, computed from literal bytes with the small catalogue, so
+-- that the definitions are pinned within this crate. The table of all cases, in both versions, is the crate
+-- `case_table`. Assumes nothing.
 use mathlib.Core.List.{List, [], _++_, _∷_, map}
 use mathlib.Core.Path.{_≡_, refl}
 use Prim.Native.Nat.{_-_, suc, zero, ℕ}
@@ -74,8 +74,8 @@ written = blocks (32 ∷ 33 ∷ 34 ∷ 255 ∷ 16 ∷ [])
 
 -- ---- a list of calls
 
--- format, two adds, reads of parts, breaks, check, a removal that copies the last page of id 65,535, and free: the whole
--- outcome of each, on the bytes that the one before it left
+-- format, two adds, reads of parts, breaks, check, a removal that copies the last page of id 65,535, and free: the
+-- whole outcome of each, on the bytes that the one before it left
 pub calls-computed :
     (formatOutcome (replicate 4096 255) untouched
     ∷ perform (add 1 (blocks (16 ∷ []))) (bytes 4096 fresh) untouched
@@ -135,7 +135,8 @@ onDisk = add 3 (replicate 512 0) ∷ remove 1 ∷ read 65535 0 (replicate 512 0)
 pub buffers-refused :
     Refuses (bytes 4095 withTwo) written 1 plain × Refuses (bytes 4097 withTwo) written 1 plain
     × Refuses (bytes 4095 withTwo ++ 1 ∷ []) written 3 plain
-    × Refuses (bytes 4096 withTwo) (replicate 2559 0) 4 onDisk × Refuses (bytes 4096 withTwo) (replicate 2561 0) 4 onDisk
+    × Refuses (bytes 4096 withTwo) (replicate 2559 0) 4 onDisk
+    × Refuses (bytes 4096 withTwo) (replicate 2561 0) 4 onDisk
 unfolding computed
 buffers-refused = (refl, refl, refl, refl, refl)
 

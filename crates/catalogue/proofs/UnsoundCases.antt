@@ -29,8 +29,8 @@ abbrev wholeDiskFree : List Field
 wholeDiskFree = row 4 0 [] ((0, 4) ∷ [])
 
 pub number-unsound :
-    Unsound (λ n. readCatalogue version1 (written (smallNumbered n) wholeDiskFree)) (0 ∷ 2 ∷ 3 ∷ 256 ∷ [])
-    × Unsound (λ n. readCatalogue version2 (written (largeNumbered n) wholeDiskFree)) (0 ∷ 1 ∷ 3 ∷ 512 ∷ [])
+    Unsound (λ n. readCatalogue version1 (written (smallNumbered n) wholeDiskFree)) (0 ∷ 2 ∷ 3 ∷ [])
+    × Unsound (λ n. readCatalogue version2 (written (largeNumbered n) wholeDiskFree)) (0 ∷ 1 ∷ 3 ∷ [])
 unfolding readCatalogue judged readLayout readHeader readEntries readEntry fileRead readPairs readPair readFrom every
     pairwise isSound isOnDisk isAligned sharesBlock filePieces insertBy sortBy heightOf ones onesIn
 number-unsound = (refl, refl)

@@ -23,8 +23,9 @@ entryRows =
     ∷ row 2 2 (entry 2 1 ((0, 1) ∷ []) ++ entry 1 1 ((1, 1) ∷ [])) []
     -- ids are equal
     ∷ row 2 2 (entry 1 1 ((0, 1) ∷ []) ++ entry 1 1 ((1, 1) ∷ [])) []
-    -- n is 0
+    -- n is 0, in the first file and in the last
     ∷ row 4 1 (entry 1 0 []) ((0, 4) ∷ [])
+    ∷ row 4 2 (entry 1 4 ((0, 4) ∷ []) ++ entry 2 0 []) []
     -- the n sum to 5 of 4 blocks, so a block is shared
     ∷ row 4 2 (entry 1 4 ((0, 4) ∷ []) ++ entry 2 1 ((0, 1) ∷ [])) []
     -- the lengths of a file sum to 1 and n is 2: free pairs for C less 1, and for C less 2
@@ -74,8 +75,9 @@ freeRows =
 -- no two pairs share a block
 abbrev pub sharedRows : List (List Field)
 sharedRows =
-    -- two files
+    -- two files, and two with another between them
     row 4 2 (entry 1 2 ((0, 2) ∷ []) ++ entry 2 1 ((1, 1) ∷ [])) ((2, 1) ∷ [])
+    ∷ row 4 3 (entry 1 2 ((0, 2) ∷ []) ++ (entry 2 1 ((2, 1) ∷ []) ++ entry 3 1 ((1, 1) ∷ []))) []
     -- two pairs of one file
     ∷ row 4 1 (entry 1 3 ((0, 2) ∷ (1, 1) ∷ [])) ((3, 1) ∷ [])
     -- a file and a free pair

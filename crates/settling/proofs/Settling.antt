@@ -110,11 +110,11 @@ module _ (t₀ : Table) (d₀ : List ℕ) (t : Table) (d : List ℕ) (copied : �
   pub settling-countable : PairFits p
   settling-countable = merge-countable (t .blocks) (g .small) t p (g .whole) (g .sized) ps f
 
-  -- and what holds after it
-  pub settling-more : (d′ : List ℕ) (k : ℕ) (r : Table) → Copied d d′ (pairCopies p) greatestDisk k → Merged t p r
-      → Settling t₀ d₀ r d′ (copied + k)
+  -- and what holds after it, with n blocks copied by then
+  pub settling-more : (d′ : List ℕ) (k n : ℕ) (r : Table) → Copied d d′ (pairCopies p) greatestDisk k → Merged t p r
+      → n ≡ copied + k → Settling t₀ d₀ r d′ n
   unfolding merge
-  settling-more d′ k r pc m =
+  settling-more d′ k n r pc m sum =
       record {
         made = g .made ++ (now ∷ []);
         all = append-assoc (g .made) (now ∷ []) (mergesOf r) ∙ (ap (λ z. g .made ++ z) rest ∙ g .all);
@@ -129,6 +129,7 @@ module _ (t₀ : Table) (d₀ : List ℕ) (t : Table) (d : List ℕ) (copied : �
             ∙ ap (runCopies d₀) (sym copies)));
         count = omega (
           arith,
+          sum,
           g .count,
           c .count,
           length-append (copiesOf (g .made)) (now .copies),
@@ -142,6 +143,7 @@ module _ (t₀ : Table) (d₀ : List ℕ) (t : Table) (d : List ℕ) (copied : �
         exact = m .exact;
         bounded = omega (
           arith,
+          sum,
           g .bounded,
           c .most,
           m .free,

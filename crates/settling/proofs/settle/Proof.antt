@@ -143,7 +143,7 @@ merges-again c =
     let moved = moving-beside _ _ _ _ _ _ _ (l .free) (f .t .free) ready (f .inv) in
     let m = moving-end _ _ _ _ _ _ _ moved (omega (arith, c .before .files-test .left)) t refl refl refl
     (w .ensures) in (
-      settling-more _ _ _ _ _ (l .inv .0) _ ps found _ (k .result) t (k .ensures) m,
+      settling-more _ _ _ _ _ (l .inv .0) _ ps found _ (k .result) _ t (k .ensures) m (omega arith),
       moving-long _ _ _ _ _ _ _ (f .inv),
     )
 

@@ -4,3 +4,4 @@ pub mod Cases
 pub mod LargeCases
 pub mod ExampleList
 pub mod RefusalCases
+pub mod LargeCatalogues

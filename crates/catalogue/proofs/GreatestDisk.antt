@@ -10,7 +10,7 @@ use lib.Dec.{eqb}
 use lib.ListN.{drop}
 use lib.Pow.{pow-pos}
 use Rattle.catalogue.proofs.Size.{ones-of-one, ones-of-zero}
-use Rattle.catalogue.proofs.WrittenFields.{large, row, written}
+use Rattle.catalogue.specs.WrittenFields.{large, row, written}
 use Rattle.catalogue.specs.Reading.{Read, Reading, every, got, isSound, judged, pairwise, readCatalogue}
 use Rattle.catalogue.specs.Reading.{readEntries, readFrom, readHeader, readLayout, readPair, readPairs, sound}
 use Rattle.catalogue.specs.Reading.{then, unsound}

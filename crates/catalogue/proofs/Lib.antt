@@ -14,8 +14,6 @@ pub mod Versions
 pub mod FieldLimits
 pub mod ByteCases
 pub mod LargePairs
-pub mod WrittenFields
-pub mod UnsoundRows
 pub mod UnsoundCases
 pub mod SoundCases
 pub mod GreatestDisk

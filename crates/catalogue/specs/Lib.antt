@@ -4,3 +4,6 @@ pub mod Encoding
 pub mod Reading
 pub mod Roomy
 pub mod Cases
+pub mod WrittenFields
+pub mod UnsoundRows
+pub mod SoundRows

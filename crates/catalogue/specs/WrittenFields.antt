@@ -1,5 +1,5 @@
 -- A catalogue written field by field, for the tables of sound and unsound ones: none of the definitions that write or
--- read a catalogue is used. Assumes nothing.
+-- read a catalogue is used. Definitions only.
 use mathlib.Core.List.{List, [], _++_, _∷_}
 use Prim.Native.Nat.{_%_, _-_, _/_, suc, zero, ℕ}
 use lib.ListN.{length, replicate}
@@ -70,3 +70,7 @@ row c k entries free = (wide c ∷ short k ∷ entries) ++ pairs free
 abbrev pub oneBlockEntries : ℕ → ℕ → List Field
 oneBlockEntries zero i = []
 oneBlockEntries (suc k) i = entry i 1 ((i - 1, 1) ∷ []) ++ oneBlockEntries k (suc i)
+
+-- four blocks, all free
+abbrev pub wholeDiskFree : List Field
+wholeDiskFree = row 4 0 [] ((0, 4) ∷ [])

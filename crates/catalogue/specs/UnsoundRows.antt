@@ -1,7 +1,7 @@
 -- Catalogues that each break a rule of document 01, "The catalogue", as the fields after the version's number; the same
--- fields serve both versions. Where a rule can be broken alone, the row breaks no other. Assumes nothing.
+-- fields serve both versions. Where a rule can be broken alone, the row breaks no other. Definitions only.
 use mathlib.Core.List.{List, [], _++_, _∷_}
-use Rattle.catalogue.proofs.WrittenFields.{Field, entry, oneBlockEntries, row, short}
+use Rattle.catalogue.specs.WrittenFields.{Field, entry, oneBlockEntries, row, short}
 
 -- C and the number of files
 abbrev pub headerRows : List (List Field)

@@ -10,8 +10,9 @@ use Rattle.layout.proofs.Cover.{covers-size}
 use Rattle.layout.proofs.Fresh.{laid}
 use Rattle.layout.proofs.Lists.{pairwise-imp}
 use Rattle.layout.proofs.Ones.{distinct-ones}
+use Rattle.layout.specs.Cases.{fresh}
 use Rattle.layout.specs.Covering.{FreshPieces, RunFrom, none, then}
-use Rattle.layout.specs.Layout.{Layout, digit, freshLayout, inRange, piecesFrom}
+use Rattle.layout.specs.Layout.{digit, freshLayout, inRange, piecesFrom}
 use Rattle.section.specs.Sections.{section}
 use Rattle.section.specs.declared.Section.{Section}
 
@@ -45,9 +46,6 @@ fresh-pieces k c top =
     }
 
 -- ---- in literal numbers
-
-abbrev fresh : ℕ → List Section → Layout
-fresh c l = record { blocks = c; files = []; free = l }
 
 -- cases 1 to 3, 32 blocks, which are one section of height 5, and the greatest disks of both versions
 pub fresh-disks :

@@ -7,11 +7,10 @@ use native.Mathlib.Nat.{zero-add}
 use native.Mathlib.Omega.{arith}
 use lib.ListN.{length}
 use Rattle.layout.proofs.MergeAll.{mergeAll-is, merged-thin}
-use Rattle.layout.proofs.MergePairs.{mergePair-is}
+use Rattle.layout.proofs.MergePairs.{mergePair-is, MergeableOf}
 use Rattle.layout.proofs.MergeStep.{merge-keeps}
 use Rattle.layout.proofs.Removed.{release-whole}
 use Rattle.layout.proofs.Splitting.{ofHeight-same}
-use Rattle.layout.specs.Choices.{MergeableOf}
 use Rattle.layout.specs.Covering.{AtMostOne, Rising, Whole, countOf}
 use Rattle.layout.specs.Layout.{File, Layout, ofHeight}
 use Rattle.layout.specs.Loop.{mergesAt, mergesFrom}

@@ -7,11 +7,10 @@ use native.Mathlib.Omega.{arith}
 use lib.ListN.{length}
 use Rattle.layout.proofs.LoopMerges.{below-suc, none-counts, pair-fewer}
 use Rattle.layout.proofs.MergeOrder.{AtMostFrom, carry-on, released-two}
-use Rattle.layout.proofs.MergePairs.{mergePair-is}
+use Rattle.layout.proofs.MergePairs.{mergePair-is, MergeableOf}
 use Rattle.layout.proofs.MergeStep.{merge-keeps}
 use Rattle.layout.proofs.Merging.{carried}
 use Rattle.layout.proofs.Removed.{release-whole}
-use Rattle.layout.specs.Choices.{MergeableOf}
 use Rattle.layout.specs.Covering.{Whole, countOf}
 use Rattle.layout.specs.Layout.{File, Layout}
 use Rattle.layout.specs.Loop.{mergesAt, mergesFrom, mergesOfHeight}

@@ -11,7 +11,7 @@ use lib.Dec.{eqb}
 use borrow.Author.Tests.{eqb-false, eqb-true}
 use Rattle.layout.proofs.BuddyPairs.{buddyPair-is}
 use Rattle.layout.proofs.Lists.{each-and, each-imp, pairwise-imp, sum-ge-all}
-use Rattle.layout.proofs.MergePairs.{lowestTwo-is, lowestTwo-lowest, mergePair-lowest}
+use Rattle.layout.proofs.MergePairs.{lowestTwo-is, lowestTwo-lowest, mergePair-lowest, LowestOf, MergeableOf}
 use Rattle.layout.proofs.Occurs.{occurs-none, occurs-one}
 use Rattle.layout.proofs.Taking.{takes-each}
 use Rattle.layout.specs.Adding.{takeFirst}
@@ -22,7 +22,7 @@ use Rattle.layout.specs.Removing.{layoutAfter, lowestTwo, merge, mergeAl
 use Rattle.layout.specs.Removing.{removal, withoutFile}
 use Rattle.section.specs.Sections.{buddyFirst, isInside, movedInto, parentFirst, section}
 use Rattle.section.specs.declared.Section.{Section}
-use Rattle.layout.specs.Choices.{AreLowest, BuddiesOf, LowestOf, MergeableOf, NoTwoBuddies, RisingStrictly}
+use Rattle.layout.specs.Choices.{AreLowest, BuddiesOf, NoTwoBuddies, RisingStrictly}
 use Rattle.layout.specs.Cases.{copy, file, removed}
 
 -- ---- the law

@@ -9,7 +9,7 @@ use lib.ListN.{length}
 use Rattle.layout.proofs.Allocating.{height-lt}
 use Rattle.layout.proofs.FilesMoved.{moved-refl, moved-trans}
 use Rattle.layout.proofs.Lists.{each-append, each-imp, each-right}
-use Rattle.layout.proofs.MergePairs.{mergePair-is}
+use Rattle.layout.proofs.MergePairs.{mergePair-is, MergeableOf}
 use Rattle.layout.proofs.MergeStep.{merge-keeps}
 use Rattle.layout.proofs.Splitting.{count-none, ofHeight-other, ofHeight-same}
 use Rattle.layout.proofs.Zipped.{zipped-refl, zipped-trans}
@@ -20,7 +20,6 @@ use Rattle.layout.specs.Removing.{mergePair, nextMerge, pair, settled}
 use Rattle.section.specs.declared.Section.{Section}
 use Rattle.layout.specs.Merges.{InDisk, MergeKeeps, MergedAll, Moved, rest, step}
 use Rattle.layout.specs.Covering.{AtMostOne, Whole, countOf}
-use Rattle.layout.specs.Choices.{MergeableOf}
 
 abbrev pub NextIs : ℕ → ℕ → Layout → Next → Type 0
 NextIs c K w (due m) = (h : ℕ) × (h < K) × ((j : ℕ) → j < h → countOf j (w .free) ≤ 1) × MergeKeeps c h w m

@@ -10,12 +10,23 @@ use Rattle.layout.proofs.Splitting.{count-none, ofHeight-same}
 use Rattle.layout.proofs.Taking.{TakesOf, nothing-height, takeFirst-is, takes-each, takes-height, takes-lowest}
 use Rattle.layout.proofs.Taking.{takes-rising, takes-sum}
 use Rattle.layout.specs.Adding.{Taken, nothing, takeFirst, taken}
-use Rattle.layout.specs.Choices.{BuddiesOf, LowestOf, Mergeable, MergeableOf, Takes}
-use Rattle.layout.specs.Covering.{Rising}
+use Rattle.layout.specs.Choices.{BuddiesOf, Mergeable, Takes}
+use Rattle.layout.specs.Covering.{Rising, countOf}
 use Rattle.layout.specs.Layout.{hasHeight, ofHeight}
+use Rattle.layout.specs.Lists.{Each}
 use Rattle.layout.specs.Removing.{MergePair, buddyPair, fewer, lowestTwo, mergePair, pair, secondOf, withLower}
 use Rattle.section.specs.Sections.{buddyOf}
 use Rattle.section.specs.declared.Section.{Section}
+
+-- what is taken, or height h has fewer than two
+abbrev pub MergeableOf : ℕ → List Section → MergePair → Type 0
+MergeableOf h free (pair l u r) = Mergeable h free l u r
+MergeableOf h free fewer = countOf h free ≤ 1
+
+-- the upper one has the lowest first block of all others of its height
+abbrev pub LowestOf : ℕ → MergePair → Type 0
+LowestOf h (pair l u r) = Each (λ (s : Section). s .height .value ≡ h → u .first ≤ s .first) r
+LowestOf h fewer = _≡_ {A = ℕ} 0 0
 
 mergeable : (h : ℕ) (free r r′ : List Section) (l u : Section) → l .height .value ≡ h → u .height .value ≡ h
     → l .first ≤ u .first → Rising free

@@ -13,14 +13,15 @@ use Rattle.layout.proofs.CopiesFrom.{none-counted}
 use Rattle.layout.proofs.Cover.{sumBelow-cong, sumBelow-sections, sumBelow-span}
 use Rattle.layout.proofs.Lists.{each-imp, each-right}
 use Rattle.layout.proofs.MergeHeld.{merge-number}
-use Rattle.layout.proofs.MergePairs.{lowest-unless-buddies, lowestTwo-lowest, mergePair-is}
+use Rattle.layout.proofs.MergePairs.{lowest-unless-buddies, lowestTwo-lowest, mergePair-is, LowestOf}
+use Rattle.layout.proofs.MergePairs.{MergeableOf}
 use Rattle.layout.proofs.MergeParts.{buddy-block, merge-parts}
 use Rattle.layout.proofs.Merging.{within-height}
 use Rattle.layout.proofs.Moving.{placed-off}
 use Rattle.layout.proofs.Ranges.{Position, above, below, inRange-above, inRange-below, inRange-inside}
 use Rattle.layout.proofs.Ranges.{position, within}
 use Rattle.layout.proofs.Splitting.{at-most-one-small, count-none}
-use Rattle.layout.specs.Choices.{LowestOf, Mergeable, MergeableOf}
+use Rattle.layout.specs.Choices.{Mergeable}
 use Rattle.layout.specs.Covering.{Whole, countOf}
 use Rattle.layout.specs.Layout.{Layout, filePieces, holdsBlock, inRange, ofHeight}
 use Rattle.layout.specs.Lists.{Each, done, more, sumOf}

@@ -10,13 +10,12 @@ use lib.Count.{ones, onesIn}
 use Rattle.layout.proofs.Fresh.{fresh-sound}
 use Rattle.layout.proofs.Lists.{each-imp}
 use Rattle.layout.proofs.Soundness.{sums-sound}
-use Rattle.layout.proofs.UnsoundCases.{singles}
 use Rattle.layout.specs.Layout.{File, filePieces, freshLayout, piecesFrom}
 use Rattle.layout.specs.Lists.{Each, Pairwise, done, more, next, none}
 use Rattle.layout.specs.Sound.{Sound}
 use Rattle.section.specs.Sections.{Apart, lengthOf, section}
 use Rattle.section.specs.declared.Section.{Section}
-use Rattle.layout.specs.Cases.{file}
+use Rattle.layout.specs.Cases.{file, singles}
 
 -- ---- 16 blocks
 

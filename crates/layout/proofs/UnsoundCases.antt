@@ -5,24 +5,14 @@
 use mathlib.Core.List.{List, [], _∷_}
 use mathlib.Core.Logic.{inl, inr}
 use mathlib.Core.Path.{refl}
-use Prim.Native.Nat.{_+_, _<_, suc, zero, ℕ}
+use Prim.Native.Nat.{_+_, _<_, ℕ}
 use native.Mathlib.Omega.{arith}
 use Rattle.layout.proofs.Lists.{each-head, each-tail}
-use Rattle.layout.specs.Layout.{File, filePieces}
+use Rattle.layout.specs.Layout.{filePieces}
 use Rattle.layout.specs.Lists.{Pairwise, next}
-use Rattle.layout.specs.Sound.{Sound}
 use Rattle.section.specs.Sections.{Apart, section}
 use Rattle.section.specs.declared.Section.{Section}
-use Rattle.layout.specs.Cases.{file}
-
--- the layout of c blocks with these files and free pieces is not sound
-abbrev pub Unsound : ℕ → List File → List Section → Type 0
-Unsound c fs free = Sound 13 (record { blocks = c; files = fs; free = free }) → ⊥
-
--- n files of one block each, one after another: ids from i on, blocks from x on
-unfoldable pub singles : ℕ → ℕ → ℕ → List File
-singles i x zero = []
-singles i x (suc n) = file i (section x 0 ∷ []) ∷ singles (suc i) (suc x) n
+use Rattle.layout.specs.Cases.{file, singles, Unsound}
 
 -- the first two of a list
 two {κ} : {A : Type 0} {R : A → A → Type κ} {a b : A} {l : List A} → Pairwise R (a ∷ b ∷ l) → R a b

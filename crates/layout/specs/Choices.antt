@@ -5,7 +5,7 @@ use mathlib.Core.Path.{_≡_}
 use Prim.Native.Nat.{_+_, _<_, _≤_, ℕ}
 use Rattle.section.specs.Sections.{buddyOf}
 use Rattle.section.specs.declared.Section.{Section}
-use Rattle.layout.specs.Covering.{Rising, countOf}
+use Rattle.layout.specs.Covering.{Rising}
 use Rattle.layout.specs.Layout.{OnDisk}
 use Rattle.layout.specs.Lists.{Each, Pairwise, indicator, sumOf}
 use Rattle.layout.specs.Removing.{MergePair, fewer, hasFreeBuddy, isBuddyAbove, pair}
@@ -52,16 +52,6 @@ pub record Mergeable (h : ℕ) (free : List Section) (l u : Section) (r : List S
   -- free is l, u and r, in some order
   pub sum : (w : Section → ℕ) → sumOf w free ≡ w l + (w u + sumOf w r)
   pub each : (c : ℕ) → Each (OnDisk c) free → OnDisk c l × OnDisk c u × Each (OnDisk c) r
-
--- what is taken, or height h has fewer than two
-abbrev pub MergeableOf : ℕ → List Section → MergePair → Type 0
-MergeableOf h free (pair l u r) = Mergeable h free l u r
-MergeableOf h free fewer = countOf h free ≤ 1
-
--- the upper one has the lowest first block of all others of its height
-abbrev pub LowestOf : ℕ → MergePair → Type 0
-LowestOf h (pair l u r) = Each (λ (s : Section). s .height .value ≡ h → u .first ≤ s .first) r
-LowestOf h fewer = _≡_ {A = ℕ} 0 0
 
 -- by rising first block, no two at one
 abbrev pub RisingStrictly : List Section → Type 0

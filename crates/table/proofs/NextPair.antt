@@ -4,10 +4,10 @@ use mathlib.Core.List.{List}
 use mathlib.Core.Path.{_∙_, _≡_, ap, refl, subst, sym}
 use Prim.Native.Nat.{_+_, _<_, _≤_, suc, zero, ℕ}
 use native.Mathlib.Omega.{arith}
-use Rattle.layout.specs.Choices.{Mergeable, MergeableOf}
+use Rattle.layout.specs.Choices.{Mergeable}
 use Rattle.layout.specs.Covering.{Rising}
 use Rattle.section.specs.Limits.{heightCount}
-use Rattle.layout.proofs.MergePairs.{mergePair-is}
+use Rattle.layout.proofs.MergePairs.{mergePair-is, MergeableOf}
 use Rattle.layout.specs.Layout.{Layout}
 use Rattle.layout.specs.Removing.{MergePair, Next, due, fewer, merge, mergePair, nextMerge, pair, settled}
 use Rattle.section.specs.declared.Section.{Section}

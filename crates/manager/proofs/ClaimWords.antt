@@ -11,11 +11,12 @@ use Rattle.catalogue.specs.declared.Version.{Version}
 use Rattle.layout.specs.Carries.{carries}
 use Rattle.layout.specs.Layout.{File, Layout, breaksOf, findFile, found}
 use Rattle.layout.specs.Removing.{copiesOf, removal}
-use Rattle.manager.specs.Book.{Book, BookReply, Line, answers, anyNumber, freshBook, inBook, line, lineWith}
+use Rattle.manager.specs.Book.{Book, BookReply, Line, answers, anyNumber, inBook, line, lineWith}
 use Rattle.manager.specs.Book.{pagesInLines, refuses}
 use Rattle.manager.specs.Call.{Call, ListedCall, TwoByteId, add, breaks, check, free, read, remove}
+use Rattle.manager.specs.Claimed.{Claimed}
 use Rattle.manager.specs.Conditions.{Reply, answered, refused}
-use Rattle.manager.specs.Outcomes.{formatOutcome, perform}
+use Rattle.manager.specs.Outcomes.{perform}
 use Rattle.manager.specs.Table.{CatalogueOf, idOf}
 use Rattle.manager.specs.WholeList.{Afterwards, Alters, CallAgrees, Follows, RepliesAgree, RightLengths}
 use Rattle.manager.specs.WholeList.{WholeList}
@@ -67,13 +68,6 @@ every-call-listed c p = record { call = c; two-bytes = go c p }
     go (breaks i) p = tt
     go free p = tt
     go check p = tt
-
--- format answers c and leaves the disk, and every list of calls follows a fresh book of c blocks
-abbrev Claimed : Version → ℕ → List ℕ → List ℕ → Type 0
-Claimed v c cat d =
-    (formatOutcome cat d .reply ≡ answered c) × (formatOutcome cat d .disk ≡ d)
-    × ((calls : List ListedCall) → Follows v calls (formatOutcome cat d .catalogue) (formatOutcome cat d .disk)
-    (freshBook c))
 
 claimed : WholeList → (v : Version) (c : ℕ) (cat d : List ℕ) → RightLengths v c cat d → Claimed v c cat d
 claimed w v c cat d right =

@@ -17,13 +17,14 @@ use Rattle.manager.proofs.AddFromSound.{add-from-sound}
 use Rattle.manager.proofs.Contents.{length-paged}
 use Rattle.manager.proofs.Deciding.{Decides}
 use Rattle.manager.proofs.Judging.{none-applies}
-use Rattle.manager.proofs.LiteralBuffers.{ClearBelow, Gives, clear-disk, clear-next, encoded-bytes}
+use Rattle.manager.proofs.LiteralBuffers.{ClearBelow, clear-disk, clear-next, encoded-bytes}
 use Rattle.manager.proofs.LiteralBuffers.{gives-lowest, one-layout}
 use Rattle.manager.proofs.OnSound.{breaks-on-sound, check-on-sound, free-on-sound}
 use Rattle.manager.proofs.ReadBack.{read-from-sound}
 use Rattle.manager.proofs.RemoveFromSound.{remove-from-sound}
 use Rattle.manager.proofs.TableRows.{decides-no-file}
 use Rattle.manager.specs.Call.{Call, add, breaks, check, free, read, remove}
+use Rattle.manager.specs.Changes.{Gives}
 use Rattle.manager.specs.Conditions.{Outcome, allowed, answered, condition, fileChecks, firstRefusal}
 use Rattle.manager.specs.Conditions.{replyUnless}
 use Rattle.manager.specs.Outcomes.{addOutcome, breaksFound, breaksReply, checkReply, freeReply, perform}

@@ -18,8 +18,9 @@ use Rattle.manager.proofs.FormatLimits.{other-length}
 use Rattle.manager.proofs.FormatRefusals.{format-lowest-refusal}
 use Rattle.manager.proofs.LowestRefusal.{lowest-refusal}
 use Rattle.manager.specs.Call.{Call, add, breaks, check, free, read, remove}
+use Rattle.manager.specs.Changes.{Gives}
 use Rattle.manager.specs.Conditions.{refused}
-use Rattle.manager.specs.Outcomes.{formatOutcome, perform}
+use Rattle.manager.specs.Outcomes.{formatOutcome}
 use Rattle.manager.specs.Table.{By, CatalogueOf, GivenIf, Refusal, bufferLength, catalogueLength, diskLength}
 use Rattle.manager.specs.Table.{filesFull, formatDisk, idMissing, idThere, idZero, noSpace, notSound, numberOf}
 use Rattle.manager.specs.Table.{pastEnd}
@@ -58,10 +59,6 @@ by-soundness check = refl
 -- ---- a call and its number
 
 module _ (cat d : List ℕ) (c : Call) where
-  -- the call gives the number
-  abbrev pub Gives : ℕ → Type 0
-  Gives n = perform c cat d .reply ≡ refused n
-
   -- no refusal below the number applies
   abbrev pub ClearBelow : ℕ → Type 0
   ClearBelow n = (q : Refusal) → numberOf q < n → By q c → GivenIf q c cat d → ⊥
@@ -80,18 +77,20 @@ module _ (cat d : List ℕ) (c : Call) where
 
   module _ (bytes : Bytes cat) where
     -- a refusal that applies is given if none below it does
-    pub gives-lowest : (r : Refusal) → By r c → GivenIf r c cat d → ClearBelow (numberOf r) → Gives (numberOf r)
+    pub gives-lowest : (r : Refusal) → By r c → GivenIf r c cat d → ClearBelow (numberOf r)
+        → Gives cat d c (numberOf r)
     gives-lowest r by given clear =
         lowest-refusal c cat d bytes (numberOf r) .1 (r, refl, record { by = by; given = given; lowest = clear })
 
     -- a catalogue that has neither 4,096 nor 16,384 bytes gives 1, whatever the call
-    pub other-length-refused : (length cat ≡ 4096 → ⊥) → (length cat ≡ 16384 → ⊥) → Gives 1
+    pub other-length-refused : (length cat ≡ 4096 → ⊥) → (length cat ≡ 16384 → ⊥) → Gives cat d c 1
     other-length-refused small large =
         gives-lowest catalogueLength (by-length c)
         (format-lowest-refusal cat d .catalogue-length .0 (other-length cat d small large)) clear-first
 
     -- one of these lengths that is the catalogue of no sound layout gives 3, whatever the call
-    pub unsound-refused : (length cat ≡ 4096) ⊎ (length cat ≡ 16384) → ((l : Layout) → CatalogueOf cat l → ⊥) → Gives 3
+    pub unsound-refused : (length cat ≡ 4096) ⊎ (length cat ≡ 16384) → ((l : Layout) → CatalogueOf cat l → ⊥)
+        → Gives cat d c 3
     unsound-refused long none =
         gives-lowest notSound (by-soundness c) none
         (clear-next formatDisk (clear-next catalogueLength clear-first (λ _. known long)) (λ _ never. never))

@@ -1,30 +1,19 @@
 -- The text of cases 3, 7, 8 and 11 of document 01, of numbers of several digits and of refusals, literally. Assumes
 -- nothing.
-use mathlib.Core.List.{List, [], _++_, _∷_, map}
+use mathlib.Core.List.{List, [], _∷_, map}
 use mathlib.Core.Path.{_≡_, refl}
-use Prim.Native.Char.{code}
 use Prim.Native.Nat.{ℕ}
 use Prim.Native.String.{String}
-use Prim.Native.String as String·
 use lib.ListN.{replicate}
 use Rattle.catalogue.specs.Cases.{caseEight, caseEleven, caseSeven, caseThree}
 use Rattle.catalogue.specs.Reading.{judged, readCatalogue, readFrom, readHeader, readLayout}
 use Rattle.catalogue.specs.Version.{versionFor}
 use Rattle.layout.specs.Layout.{Layout}
 use Rattle.layout.specs.Lists.{insertBy, sortBy}
+use Rattle.manager.specs.Cases.{codes, lines}
 use Rattle.manager.specs.Printing.{allFileLines, decimal, decimalIn, fileLines, firstLine, layoutText, pairLine}
 use Rattle.manager.specs.Printing.{pairLines, printed, printedIn, refusalText}
 use Rattle.section.specs.Sections.{section}
-
--- the code of each character
-abbrev codes : String → List ℕ
-codes String·.[] = []
-codes (String·._∷_ c s) = code c ∷ codes s
-
--- lines, each ended by the byte 0A hex
-abbrev lines : List String → List ℕ
-lines [] = []
-lines (s ∷ l) = codes s ++ (0x0a ∷ lines l)
 
 -- the characters of the texts in ASCII
 pub character-codes : codes " 0123456789bcdefiklorsu"

@@ -1,5 +1,5 @@
--- What a call leaves: the buffers as they were where it is refused, and all that an add and a removal do to a sound
--- catalogue and its disk. Definitions only.
+-- What a call leaves: a refusal's number and the buffers as they were, and all that an add and a removal do to a
+-- sound catalogue and its disk. Definitions only.
 use mathlib.Core.List.{List, [], map}
 use mathlib.Core.Path.{_≡_}
 use Prim.Native.Nat.{_*_, _≤_, ℕ}
@@ -15,9 +15,15 @@ use Rattle.layout.specs.Sound.{Sound}
 use Rattle.catalogue.specs.Encoding.{encode}
 use Rattle.catalogue.specs.declared.Version.{Version}
 use Rattle.manager.specs.Book.{contentPages, strikeLine, writeLine}
-use Rattle.manager.specs.Conditions.{Outcome, answered}
+use Rattle.manager.specs.Call.{Call}
+use Rattle.manager.specs.Conditions.{Outcome, answered, refused}
 use Rattle.manager.specs.Disk.{block, cutPages, pageCount, pagesOn, runCopies}
+use Rattle.manager.specs.Outcomes.{perform}
 use Rattle.manager.specs.WholeList.{lineOn}
+
+-- the call is refused with the number n
+abbrev pub Gives : List ℕ → List ℕ → Call → ℕ → Type 0
+Gives cat d c n = perform c cat d .reply ≡ refused n
 
 -- the buffers after a call are those before it
 pub record Unchanged (cat d o : List ℕ) (x : Outcome) : Type 0 where

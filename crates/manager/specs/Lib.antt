@@ -10,3 +10,5 @@ pub mod WholeList
 pub mod Printing
 pub mod Changes
 pub mod Formatting
+pub mod Claimed
+pub mod Cases

@@ -9,15 +9,14 @@ use lib.IntN.{ℤ, negℤ, pos}
 use lib.ListN.{length}
 use Rattle.catalogue.specs.Version.{here, later, version1, version2}
 use Rattle.catalogue.specs.declared.Version.{Version}
-use Rattle.manager.specs.Book.{BookReply, answers, anyNumber, freshBook, refuses}
+use Rattle.evdisk.specs.Called.{Claimed, calledOn}
+use Rattle.manager.specs.Book.{BookReply, answers, anyNumber, refuses}
 use Rattle.manager.specs.Call.{Call, ListedCall, add, breaks, check, free, read, remove}
-use Rattle.manager.specs.Conditions.{Outcome}
-use Rattle.manager.specs.Outcomes.{formatOutcome, perform}
+use Rattle.manager.specs.Outcomes.{perform}
 use Rattle.manager.specs.WholeList.{RightLengths}
 use Rattle.evdisk.proofs.CodesApart.{codes-apart, refusals-apart}
-use Rattle.evdisk.specs.Codes.{codeOf}
-use Rattle.evdisk.specs.ExportedList.{AltersBy, AsPromised, CodeOfBook, CodesFollow, ExportedCall, ExportedList}
-use Rattle.evdisk.specs.ExportedList.{Promised, Returned, returned}
+use Rattle.evdisk.specs.ExportedList.{AltersBy, CodeOfBook, ExportedList}
+use Rattle.evdisk.specs.ExportedList.{Promised}
 
 -- ---- at each call
 
@@ -53,16 +52,6 @@ code-alters-only check r a = absurd a
 
 -- ---- which lists
 
-abbrev givenBack : Outcome → Returned
-givenBack o = returned (codeOf (o .reply)) (o .catalogue) (o .disk) (o .output)
-
--- a list of calls with what they give back
-abbrev calledOn : List ListedCall → List ℕ → List ℕ → List ExportedCall
-calledOn [] cat d = []
-calledOn (c ∷ cs) cat d =
-    let o : Outcome = perform (c .call) cat d in
-    (record { listed = c; gave = givenBack o }) ∷ calledOn cs (o .catalogue) (o .disk)
-
 -- every list of calls is one that the claim is about
 pub every-list-promised : (cs : List ListedCall) (cat d : List ℕ) → Promised (calledOn cs cat d) cat d
 every-list-promised [] cat d = tt
@@ -72,13 +61,6 @@ every-list-promised (c ∷ cs) cat d = (
 )
 
 -- ---- which disks
-
--- format gives back c, and every list of calls after it follows a fresh book of c blocks
-abbrev Claimed : ℕ → List ℕ → List ℕ → Type 0
-Claimed c cat d =
-    (r : Returned) → AsPromised (formatOutcome cat d) r
-    → (r .code ≡ pos c) × ((cs : List ExportedCall) → Promised cs (r .catalogue) (r .disk)
-    → (v : Version) × CodesFollow v cs (r .catalogue) (r .disk) (freshBook c))
 
 claimed : ExportedList → (v : Version) (c : ℕ) (cat d : List ℕ) → RightLengths v c cat d → Claimed c cat d
 claimed w v c cat d right r p =

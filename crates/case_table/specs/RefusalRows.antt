@@ -3,7 +3,7 @@
 use mathlib.Core.List.{List, [], map}
 use Prim.Native.Nat.{ℕ}
 use Rattle.case_table.specs.CaseRun.{performed}
-use Rattle.manager.specs.Call.{Call, outputOf}
+use Rattle.manager.specs.Call.{Call, add, breaks, check, free, read, remove}
 use Rattle.manager.specs.Conditions.{Outcome, outcome, refused}
 use Rattle.manager.specs.Outcomes.{formatOutcome}
 
@@ -26,7 +26,12 @@ pub record RefusalRow : Type 0 where
 -- the caller's output buffer
 abbrev pub outputLent : AnyCall → List ℕ
 outputLent format = []
-outputLent (listed c) = outputOf c
+outputLent (listed (add i bs)) = []
+outputLent (listed (remove i)) = []
+outputLent (listed (read i p o)) = o
+outputLent (listed (breaks i)) = []
+outputLent (listed free) = []
+outputLent (listed check) = []
 
 -- the outcome of a call
 abbrev pub outcomeOf : AnyCall → List ℕ → List ℕ → Outcome

@@ -16,7 +16,7 @@ use Rattle.layout.specs.Layout.{blockRun, blocksOf, breaksOf, filePieces, findF
 use Rattle.layout.specs.Lists.{insertBy, sortBy}
 use Rattle.layout.specs.Removing.{buddyPair, copiesFrom, copiesOf, copyRun, insertAll, layoutAfter, lowestTwo, merge}
 use Rattle.layout.specs.Removing.{mergeAll, mergePair, nextMerge, release, removal, withoutFile}
-use Rattle.manager.specs.Call.{Call, add, breaks, check, free, outputOf, read, remove}
+use Rattle.manager.specs.Call.{Call, add, breaks, check, free, read, remove}
 use Rattle.manager.specs.Conditions.{Outcome, answered, firstRefusal, outcome, refused}
 use Rattle.manager.specs.Disk.{cutPages, joinPages, pagesOn, runCopies, writePages}
 use Rattle.manager.specs.Outcomes.{addIn, breaksIn, checkIn, formatIn, formatOutcome, freeIn, perform, readIn}
@@ -118,36 +118,50 @@ removal-computed = refl
 
 -- ---- refusals
 
+-- the caller's output buffer
+abbrev lent : Call → List ℕ
+lent (add i bs) = []
+lent (remove i) = []
+lent (read i p o) = o
+lent (breaks i) = []
+lent free = []
+lent check = []
+
 -- these calls give the number, and leave all buffers
 abbrev Refuses : List ℕ → List ℕ → ℕ → List Call → Type 0
-Refuses cat d n calls =
-    map (λ c. perform c cat d) calls ≡ map (λ c. outcome (refused n) cat d (outputOf c)) calls
+Refuses cat d n calls = map (λ c. perform c cat d) calls ≡ map (λ c. outcome (refused n) cat d (lent c)) calls
 
--- a call of each kind that is answered on the right buffers; of those the ones that get the disk
+-- a call of each kind that is answered on the right buffers; of those the ones that get the disk; and such with id 0
 abbrev plain : List Call
 plain = add 3 (replicate 512 0) ∷ remove 1 ∷ read 65535 0 (replicate 512 0) ∷ breaks 65535 ∷ free ∷ check ∷ []
 
 abbrev onDisk : List Call
 onDisk = add 3 (replicate 512 0) ∷ remove 1 ∷ read 65535 0 (replicate 512 0) ∷ check ∷ []
 
+abbrev zeros : List Call
+zeros = add 0 [] ∷ remove 0 ∷ read 0 0 [] ∷ []
+
 -- catalogues of 4,095 and 4,097 bytes; one with a byte after its end; disks one byte shorter and longer than five
--- blocks
+-- blocks; and the lowest number where more than one applies
 pub buffers-refused :
     Refuses (bytes 4095 withTwo) written 1 plain × Refuses (bytes 4097 withTwo) written 1 plain
+    × Refuses (replicate 4097 255) (replicate 2559 0) 1 zeros
     × Refuses (bytes 4095 withTwo ++ 1 ∷ []) written 3 plain
+    × Refuses (bytes 4095 withTwo ++ 1 ∷ []) (replicate 2559 0) 3 zeros
     × Refuses (bytes 4096 withTwo) (replicate 2559 0) 4 onDisk
     × Refuses (bytes 4096 withTwo) (replicate 2561 0) 4 onDisk
+    × Refuses (bytes 4096 withTwo) (replicate 2561 0) 4 zeros
 unfolding computed
-buffers-refused = (refl, refl, refl, refl, refl)
+buffers-refused = (refl, refl, refl, refl, refl, refl, refl, refl)
 
 -- ids, contents and outputs of 0, 511 and 513 bytes, pages past the end, more pages than are free
 pub arguments-refused :
-    Refuses (bytes 4096 withTwo) written 5 (add 0 [] ∷ remove 0 ∷ read 0 0 [] ∷ breaks 0 ∷ [])
+    Refuses (bytes 4096 withTwo) written 5 (breaks 0 ∷ zeros)
     × Refuses (bytes 4096 withTwo) written 6 (remove 3 ∷ read 3 0 [] ∷ breaks 3 ∷ [])
-    × Refuses (bytes 4096 withTwo) written 7 (add 65535 [] ∷ [])
+    × Refuses (bytes 4096 withTwo) written 7 (add 65535 [] ∷ add 1 (replicate 1024 0) ∷ [])
     × Refuses (bytes 4096 withTwo) written 8
-    (add 3 [] ∷ add 3 (replicate 511 0) ∷ add 3 (replicate 513 0) ∷ read 65535 9 [] ∷ read 65535 0 (replicate 511 0)
-    ∷ read 65535 0 (replicate 513 0) ∷ [])
+    (add 3 [] ∷ add 3 (replicate 511 0) ∷ add 3 (replicate 513 0) ∷ add 3 (replicate 1025 0) ∷ read 65535 9 []
+    ∷ read 65535 0 (replicate 511 0) ∷ read 65535 0 (replicate 513 0) ∷ [])
     × Refuses (bytes 4096 withTwo) written 9 (read 65535 3 (replicate 512 0) ∷ read 65535 2 (replicate 1024 0) ∷ [])
     × Refuses (bytes 4096 withTwo) written 11 (add 3 (replicate 1024 0) ∷ [])
 unfolding computed
@@ -158,13 +172,13 @@ abbrev entries : ℕ → ℕ → List ℕ
 entries i zero = []
 entries i (suc n) = 0 ∷ suc i ∷ 0 ∷ 1 ∷ 0 ∷ i ∷ 0 ∷ 1 ∷ entries (suc i) n
 
--- with 63 files there the 64th passes, and with 64 the 65th gives 10
+-- with 63 files there the 64th passes, and with 64 the 65th gives 10, also if it does not fit
 pub files-limited :
     (perform (add 64 (replicate 512 0))
     (bytes 4096 (0 ∷ 1 ∷ 0 ∷ 64 ∷ 0 ∷ 63 ∷ (entries 0 63 ++ 0 ∷ 63 ∷ 0 ∷ 1 ∷ []))) (replicate 32768 0) .reply
     ≡ answered 1)
     × Refuses (bytes 4096 (0 ∷ 1 ∷ 0 ∷ 65 ∷ 0 ∷ 64 ∷ (entries 0 64 ++ 0 ∷ 64 ∷ 0 ∷ 1 ∷ []))) (replicate 33280 0) 10
-    (add 65 (replicate 512 0) ∷ [])
+    (add 65 (replicate 512 0) ∷ add 65 (replicate 1024 0) ∷ [])
 unfolding computed
 files-limited = (refl, refl)
 

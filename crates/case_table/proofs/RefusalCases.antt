@@ -1,5 +1,5 @@
--- Every row of the table of refusals, computed in both versions: each call gives its number, and leaves catalogue, disk
--- and output as they were; and that the 64th file passes. Assumes nothing.
+-- Every row of the table of refusals, computed in both versions: each call gives its number, and leaves catalogue,
+-- disk and output as they were; and that the 64th file passes. Assumes nothing.
 use mathlib.Core.List.{[], _++_, map}
 use mathlib.Core.Path.{_≡_, refl}
 use Rattle.case_table.specs.CaseRows.{contentOf, filledBlocks}

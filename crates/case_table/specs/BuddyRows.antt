@@ -50,8 +50,8 @@ buddyRows =
       files = fileSeen 2 0 (2 ∷ 3 ∷ []) (32 ∷ 33 ∷ []) ∷ [];
       disk = 16 ∷ 50 ∷ 32 ∷ 33 ∷ 48 ∷ 49 ∷ 255 ∷ 255 ∷ [];
     }
-    -- of (12,2), (20,2) and (22,2) the last two are merged; the merges above take 11 copies in all, within the limit of
-    -- 15, where the two lowest of each height would take 7
+    -- of (12,2), (20,2) and (22,2) the last two are merged; the merges above take 11 copies in all, within the limit
+    -- of 15, where the two lowest of each height would take 7
     ∷ record {
       start = givenLayout layoutBeforeDearer;
       calls = remove 1 ∷ read 2 0 (untouched 3) ∷ [];

@@ -1,5 +1,5 @@
--- What a row of the table of refusals is, and how it is computed: buffers as they are lent, whatever their lengths, and
--- calls that are each refused on them, format among the calls. Definitions only.
+-- What a row of the table of refusals is, and how it is computed: buffers as they are lent, whatever their lengths,
+-- and calls that are each refused on them, format among the calls. Definitions only.
 use mathlib.Core.List.{List, [], map}
 use Prim.Native.Nat.{ℕ}
 use Rattle.case_table.specs.CaseRun.{performed}

@@ -1,5 +1,5 @@
--- The refusals of every call by literal lengths, one byte off on both sides, and pairs of refusals that apply together,
--- of which the lowest number is returned, written out by hand. Definitions only.
+-- The refusals of every call by literal lengths, one byte off on both sides, and pairs of refusals that apply
+-- together, of which the lowest number is returned, written out by hand. Definitions only.
 use mathlib.Core.List.{List, [], _++_, _∷_, map}
 use Prim.Native.Nat.{_-_, suc, zero, ℕ}
 use lib.ListN.{length, replicate}

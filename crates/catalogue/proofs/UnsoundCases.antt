@@ -1,5 +1,5 @@
--- Small catalogues that break a rule are not sound: the rows of UnsoundRows, and those in which the versions differ. The
--- large ones are computed in the crate `case_table`. Assumes nothing.
+-- Small catalogues that break a rule are not sound: the rows of UnsoundRows, and those in which the versions differ.
+-- The large ones are computed in the crate `case_table`. Assumes nothing.
 use mathlib.Core.List.{List, [], _∷_, map}
 use mathlib.Core.Path.{_≡_, refl}
 use lib.Count.{ones, onesIn}

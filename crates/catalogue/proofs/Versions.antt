@@ -34,8 +34,8 @@ encoded-once u v ru rv l m s t e =
       encode-unique v rv l m (subst (λ w. Sound (w .heights) l) same s) t (ap (λ w. encode w l) (sym same) ∙ e),
     )
 
--- the bytes of any length that a version has are read as a layout exactly if they are its encoding in a version, and it
--- is sound
+-- the bytes of any length that a version has are read as a layout exactly if they are its encoding in a version, and
+-- it is sound
 pub reading-any : (cat : List ℕ) (l : Layout) → Bytes cat
     → ((length cat ≡ versionOf cat .bytes) × (readCatalogue (versionOf cat) cat ≡ sound l))
     ↔ ((v : Version) × OneOf v versions × (cat ≡ encode v l) × Sound (v .heights) l)
@@ -54,7 +54,8 @@ reading-any cat l b = (
           ap (λ u. readCatalogue u cat) same ∙ reading-iff v (roomy o) cat l b long .1 (e, s),
         )
 
--- in a version that is served, a layout that is no longer than its greatest C is sound exactly if it is for all heights
+-- in a version that is served, a layout that is no longer than its greatest C is sound exactly if it is for all
+-- heights
 pub sound-in : (v : Version) → Served v → (l : Layout) → l .blocks ≤ greatestBlocks v
     → isSound (v .heights) l ≡ isSound heightCount l
 sound-in v z l most = go (isSound (v .heights) l) refl (isSound heightCount l) refl

@@ -1,5 +1,5 @@
--- Catalogues at the limits of the rules of document 01, as fields that hold in both versions, each with the layout that
--- it is read as. Definitions only.
+-- Catalogues at the limits of the rules of document 01, as fields that hold in both versions, each with the layout
+-- that it is read as. Definitions only.
 use mathlib.Core.List.{List, [], _++_, _∷_}
 use Prim.Native.Nat.{_-_, suc, zero, ℕ}
 use Rattle.catalogue.specs.WrittenFields.{Field, entry, oneBlockEntries, row}

@@ -1,5 +1,5 @@
--- Catalogues that each break a rule of document 01, "The catalogue", as the fields after the version's number; the same
--- fields serve both versions. Where a rule can be broken alone, the row breaks no other. Definitions only.
+-- Catalogues that each break a rule of document 01, "The catalogue", as the fields after the version's number; the
+-- same fields serve both versions. Where a rule can be broken alone, the row breaks no other. Definitions only.
 use mathlib.Core.List.{List, [], _++_, _∷_}
 use Rattle.catalogue.specs.WrittenFields.{Field, entry, oneBlockEntries, row, short}
 

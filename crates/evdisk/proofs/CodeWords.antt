@@ -1,5 +1,5 @@
--- What the words of the claim about exported calls mean, from its own definitions and from any proof of it, and that its
--- lists are there: whatever is called, the calls' own outcomes make one. Assumes nothing.
+-- What the words of the claim about exported calls mean, from its own definitions and from any proof of it, and that
+-- its lists are there: whatever is called, the calls' own outcomes make one. Assumes nothing.
 use mathlib.Core.List.{List, [], _∷_}
 use mathlib.Core.Logic.{_↔_, _⊎_, inl, inr}
 use mathlib.Core.Path.{_∙_, _≡_, ap, refl, sym}

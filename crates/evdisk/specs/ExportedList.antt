@@ -1,7 +1,7 @@
--- The claim about every list of exported calls, in the words of include/evdisk.h: the number that a call gives back and
--- the bytes that it leaves in the caller's buffers. Definitions only.
--- `ExportedList` is the one statement; `exported-list` of `proofs/ExportedList.antt` proves it. What it asks of each call
--- is the clause `listed` of that call's contract.
+-- The claim about every list of exported calls, in the words of include/evdisk.h: the number that a call gives back
+-- and the bytes that it leaves in the caller's buffers. Definitions only. `ExportedList` is the one statement;
+-- `exported-list` of `proofs/ExportedList.antt` proves it. What it asks of each call is the clause `listed` of that
+-- call's contract.
 use mathlib.Core.List.{List, [], _∷_}
 use mathlib.Core.Path.{_≡_}
 use Prim.Native.Nat.{_≤_, ℕ}
@@ -57,7 +57,8 @@ Promised (c ∷ cs) cat d =
 
 -- ---- at each call
 
--- the number if the book refuses with n: minus n, and below 0; if it answers n: n; if it answers some number: 0 or more
+-- the number if the book refuses with n: minus n, and below 0; if it answers n: n; if it answers some number: 0 or
+-- more
 abbrev pub CodeOfBook : BookReply → ℤ → Type 0
 CodeOfBook (refuses n) r = (1 ≤ n) × (r ≡ negℤ (pos n))
 CodeOfBook (answers n) r = r ≡ pos n

@@ -1,5 +1,5 @@
--- Cases 5, 6 and 8 of document 01 on layouts, splits through all heights, the files of case 6 by id, page order, breaks
--- and blocks in a range, in literal numbers. Assumes nothing.
+-- Cases 5, 6 and 8 of document 01 on layouts, splits through all heights, the files of case 6 by id, page order,
+-- breaks and blocks in a range, in literal numbers. Assumes nothing.
 use mathlib.Core.Bool.{false, true}
 use mathlib.Core.List.{List, [], _∷_}
 use mathlib.Core.Path.{_≡_, refl}

@@ -1,5 +1,5 @@
--- Merges to the end copy at most the sum of the place values at which f + n carries. What counts of free pieces come to
--- is a word of this file only: every law that others see speaks of `carries`. Assumes nothing.
+-- Merges to the end copy at most the sum of the place values at which f + n carries. What counts of free pieces come
+-- to is a word of this file only: every law that others see speaks of `carries`. Assumes nothing.
 use mathlib.Core.List.{List}
 use mathlib.Core.Logic.{_⊎_, inl, inr}
 use mathlib.Core.Path.{_∙_, _≡_, ap, refl, subst, sym}

@@ -1,4 +1,5 @@
--- Those of some copies whose source passes a test: what holds of them, and how many of a run they are. Assumes nothing.
+-- Those of some copies whose source passes a test: what holds of them, and how many of a run they are. Assumes
+-- nothing.
 use mathlib.Core.Bool.{Bool, false, true}
 use mathlib.Core.List.{List, [], _++_, _∷_}
 use mathlib.Core.Path.{_∙_, _≡_, ap, ap₂, refl, subst, sym}

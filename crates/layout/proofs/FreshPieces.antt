@@ -1,5 +1,5 @@
--- The free pieces of a fresh disk are one for each 1 of C, longest first, one after another from block 0 on: the law, and
--- cases 1 to 3 with other disks in literal numbers. Assumes nothing.
+-- The free pieces of a fresh disk are one for each 1 of C, longest first, one after another from block 0 on: the law,
+-- and cases 1 to 3 with other disks in literal numbers. Assumes nothing.
 use mathlib.Core.List.{List, [], _∷_}
 use mathlib.Core.Path.{_∙_, _≡_, ap, refl}
 use Prim.Native.Nat.{_%_, _+_, _<_, _^_, suc, zero, ℕ}

@@ -1,6 +1,6 @@
--- Where no two free pieces of a height are buddies, the two lowest of the height are merged: L below U, and every other
--- of the height begins above U. With two removals in literal numbers that have three free pieces of one height. Assumes
--- nothing.
+-- Where no two free pieces of a height are buddies, the two lowest of the height are merged: L below U, and every
+-- other of the height begins above U. With two removals in literal numbers that have three free pieces of one height.
+-- Assumes nothing.
 use mathlib.Core.Bool.{Bool, false, true}
 use mathlib.Core.List.{List, [], _∷_}
 use mathlib.Core.Path.{_∙_, _≡_, refl, subst, sym}
@@ -78,8 +78,8 @@ lowest-are-merged h free {l} {u} {r} rise alone e =
 
 -- ---- removals
 
--- height 1 has free pieces at 0, 4 and 8, no two of them buddies: those at 0 and 4 are merged, and what lies in the buddy
--- of the lowest moves to 4
+-- height 1 has free pieces at 0, 4 and 8, no two of them buddies: those at 0 and 4 are merged, and what lies in the
+-- buddy of the lowest moves to 4
 pub removal-lowest-of-three :
     removed (file 1 (section 8 1 ∷ section 2 0 ∷ []))
     (record {

@@ -1,5 +1,5 @@
--- The pieces of a disk are its sections: the rule of a layout says what the test of section arithmetic says, and those of
--- height h begin at i * 2 ^ h for each i below C / 2 ^ h. Assumes nothing.
+-- The pieces of a disk are its sections: the rule of a layout says what the test of section arithmetic says, and
+-- those of height h begin at i * 2 ^ h for each i below C / 2 ^ h. Assumes nothing.
 use mathlib.Core.Bool.{true}
 use mathlib.Core.Logic.{_↔_}
 use mathlib.Core.Path.{_≡_}

@@ -1,5 +1,5 @@
--- One piece for each 1 of n, as long as its place value: such pieces sum to n, are as many as the ones of n, and no two of
--- them are equally long. With lists in literal numbers that are such and that are not. Assumes nothing.
+-- One piece for each 1 of n, as long as its place value: such pieces sum to n, are as many as the ones of n, and no
+-- two of them are equally long. With lists in literal numbers that are such and that are not. Assumes nothing.
 use mathlib.Core.List.{List, [], _∷_}
 use mathlib.Core.Path.{_∙_, _≡_, ap, refl, sym}
 use Prim.Native.Nat.{_%_, _*_, _+_, _/_, _<_, _^_, _≤_, suc, zero, ℕ}

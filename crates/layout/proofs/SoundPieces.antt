@@ -1,6 +1,6 @@
--- How many pieces a sound layout has, in the words of document 01: one for each 1 of n and of f, so a file has some and
--- its breaks are the ones of n less one, 32 free blocks are one section of height 5, and with heights below k no file and
--- no disk has more than k - 1 pieces. Assumes nothing.
+-- How many pieces a sound layout has, in the words of document 01: one for each 1 of n and of f, so a file has some
+-- and its breaks are the ones of n less one, 32 free blocks are one section of height 5, and with heights below k no
+-- file and no disk has more than k - 1 pieces. Assumes nothing.
 use mathlib.Core.List.{List, [], _∷_}
 use mathlib.Core.Logic.{_⊎_, inl, inr}
 use mathlib.Core.Path.{_∙_, _≡_, ap, refl, sym}

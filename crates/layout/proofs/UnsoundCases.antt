@@ -1,7 +1,7 @@
--- Layouts in literal numbers that break one rule of document 01 each and are not sound: a rule left out or weakened lets
--- one of them by. Heights are those of version 1. Assumes nothing.
--- Some rules follow from others, so that no layout breaks them alone: lengths that sum to n and are as many as the ones
--- of n are distinct, pieces that are apart on a disk of C blocks sum to at most C, and none is higher than the disk.
+-- Layouts in literal numbers that break one rule of document 01 each and are not sound: a rule left out or weakened
+-- lets one of them by. Heights are those of version 1. Assumes nothing. Some rules follow from others, so that no
+-- layout breaks them alone: lengths that sum to n and are as many as the ones of n are distinct, pieces that are
+-- apart on a disk of C blocks sum to at most C, and none is higher than the disk.
 use mathlib.Core.List.{List, [], _∷_}
 use mathlib.Core.Logic.{inl, inr}
 use mathlib.Core.Path.{refl}

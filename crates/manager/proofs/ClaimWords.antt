@@ -89,8 +89,8 @@ claim-reaches-large w c some most cat d lc ld =
 
 -- ---- all of it, in the words of document 01
 
--- what is claimed of a call: refusals and answers are the book's, the whole output is, and a call that is refused or is
--- no add or removal leaves catalogue, disk and book
+-- what is claimed of a call: refusals and answers are the book's, the whole output is, and a call that is refused or
+-- is no add or removal leaves catalogue, disk and book
 pub call-claims : (c : Call) (cat d : List ℕ) (b : Book) → CallAgrees c cat d b
     → ((n : ℕ) → (perform c cat d .reply ≡ refused n) ↔ (inBook c b .reply ≡ refuses n))
     × ((n : ℕ) → inBook c b .reply ≡ answers n → perform c cat d .reply ≡ answered n)

@@ -1,6 +1,6 @@
--- When a format is refused: with 1 exactly if the catalogue has the length of no version, with 2 exactly if it has that
--- of a version and the disk is not the bytes of C blocks for a C of that version, and with no other number. Assumes
--- nothing.
+-- When a format is refused: with 1 exactly if the catalogue has the length of no version, with 2 exactly if it has
+-- that of a version and the disk is not the bytes of C blocks for a C of that version, and with no other number.
+-- Assumes nothing.
 use mathlib.Core.Bool.{Bool, false, true}
 use mathlib.Core.List.{List, [], _∷_}
 use mathlib.Core.Logic.{_⊎_, inl, inr}

@@ -1,6 +1,6 @@
--- The refusals 1 to 4 of the calls by literal numbers: a catalogue of 4,096 or of 16,384 bytes, a disk of 512 bytes for
--- each of 1 to 4,096 or to 1,048,576 blocks for format, and for each block of the catalogue's layout for other calls,
--- no byte less and no byte more. Assumes nothing.
+-- The refusals 1 to 4 of the calls by literal numbers: a catalogue of 4,096 or of 16,384 bytes, a disk of 512 bytes
+-- for each of 1 to 4,096 or to 1,048,576 blocks for format, and for each block of the catalogue's layout for other
+-- calls, no byte less and no byte more. Assumes nothing.
 use mathlib.Core.List.{List}
 use mathlib.Core.Logic.{_⊎_, inl, inr}
 use mathlib.Core.Path.{_∙_, _≡_, refl, subst, sym}

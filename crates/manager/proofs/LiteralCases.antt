@@ -102,8 +102,8 @@ pub calls-computed :
 unfolding computed
 calls-computed = refl
 
--- a removal that copies a page twice, from block 0 to 2 and on to 6: id 1 at (2,1), id 2 at (0,1), id 3 at (4,2) (3,1),
--- free (1,1) (6,2) on eight blocks; then id 2 at (6,1), id 3 at (4,2) (7,1), free (0,4)
+-- a removal that copies a page twice, from block 0 to 2 and on to 6: id 1 at (2,1), id 2 at (0,1), id 3 at (4,2)
+-- (3,1), free (1,1) (6,2) on eight blocks; then id 2 at (6,1), id 3 at (4,2) (7,1), free (0,4)
 pub removal-computed :
     perform (remove 1)
     (bytes 4096 (0 ∷ 1 ∷ 0 ∷ 8 ∷ 0 ∷ 3 ∷ 0 ∷ 1 ∷ 0 ∷ 1 ∷ 0 ∷ 2 ∷ 0 ∷ 1 ∷ 0 ∷ 2 ∷ 0 ∷ 1 ∷ 0 ∷ 0 ∷ 0 ∷ 1

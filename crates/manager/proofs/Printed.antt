@@ -1,5 +1,5 @@
--- What is printed for an input, in the words of the versions: the text of its layout, or of the refusal 1 or 3. Assumes
--- nothing.
+-- What is printed for an input, in the words of the versions: the text of its layout, or of the refusal 1 or 3.
+-- Assumes nothing.
 use mathlib.Core.Bool.{Bool, false, true}
 use mathlib.Core.List.{List}
 use mathlib.Core.Path.{_∙_, _≡_, ap, refl, sym}

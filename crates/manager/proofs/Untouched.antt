@@ -1,5 +1,5 @@
--- What a call leaves of the buffers that it never writes, whatever it is called with: a read leaves catalogue and disk,
--- format the disk, and format, add and remove have no output. Assumes nothing.
+-- What a call leaves of the buffers that it never writes, whatever it is called with: a read leaves catalogue and
+-- disk, format the disk, and format, add and remove have no output. Assumes nothing.
 use mathlib.Core.List.{List, []}
 use mathlib.Core.Path.{_≡_, refl}
 use Prim.Native.Nat.{ℕ}

@@ -1,5 +1,5 @@
--- Blocks in a row, block by block: which blocks the n blocks from a on are, when they are all among others, and when they
--- share none with others. Assumes nothing.
+-- Blocks in a row, block by block: which blocks the n blocks from a on are, when they are all among others, and when
+-- they share none with others. Assumes nothing.
 use mathlib.Core.Logic.{_↔_, _⊎_, inl, inr, ⊎-elim}
 use mathlib.Core.Path.{_≡_}
 use Prim.Native.Nat.{ℕ, _+_, _-_, _<_}

@@ -1,5 +1,5 @@
--- Where the sections of a disk begin: those of height h of a disk of c blocks at i * 2 ^ h for each i below c / 2 ^ h, and
--- nowhere else, so their indexes stop at c / 2 ^ h - 1. Assumes nothing.
+-- Where the sections of a disk begin: those of height h of a disk of c blocks at i * 2 ^ h for each i below c / 2 ^
+-- h, and nowhere else, so their indexes stop at c / 2 ^ h - 1. Assumes nothing.
 use mathlib.Core.List.{[], _∷_}
 use mathlib.Core.Bool.{true, false}
 use mathlib.Core.Logic.{_↔_}

@@ -1,5 +1,5 @@
--- Sections in literal numbers: buddies and parents, what is inside what, what moves where, and which numbers are lengths.
--- Assumes nothing.
+-- Sections in literal numbers: buddies and parents, what is inside what, what moves where, and which numbers are
+-- lengths. Assumes nothing.
 use mathlib.Core.Bool.{true, false}
 use mathlib.Core.List.{[], _∷_}
 use mathlib.Core.Path.{_≡_, refl}

@@ -1,4 +1,5 @@
--- `evdisk::reading::evdisk_check` meets its contract: the outcome of the call, its answer as a number. Assumes nothing.
+-- `evdisk::reading::evdisk_check` meets its contract: the outcome of the call, its answer as a number. Assumes
+-- nothing.
 use mathlib.Core.Path.{_∙_, ap, refl}
 use borrow.Author.Needs.{needs}
 use Rattle.evdisk.specs.Codes.{codeOf}

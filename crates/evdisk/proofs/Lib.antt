@@ -4,3 +4,4 @@ pub mod CodesApart
 mod Within
 pub mod ExportedList
 pub mod CodeWords
+pub mod CodeClaims

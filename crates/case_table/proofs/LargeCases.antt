@@ -1,5 +1,5 @@
 -- Cases 1 to 11 with the large catalogue, in groups, since each call computes over 16,384 bytes, and without the rows
--- of cases 4 to 6, which case 7 goes through; the removals and lengths beyond these cases; and the bytes of case 7.
+-- of cases 4 to 6, which case 7 goes through; removals with free buddies, and literal lengths; and the bytes of case 7.
 -- Assumes nothing.
 use mathlib.Core.List.{List, _++_, map}
 use mathlib.Core.Path.{_≡_, refl}
@@ -13,7 +13,6 @@ use Rattle.case_table.specs.CaseRun.{afterCalls, computed, expected, per
 use Rattle.case_table.specs.BuddyRows.{buddyRows}
 use Rattle.case_table.specs.CaseTable.{caseTable}
 use Rattle.case_table.specs.LengthRows.{lengthRows}
-use Rattle.case_table.specs.MergeRows.{mergeRows}
 
 -- these rows show what is expected of them in version 2
 abbrev Hold : List Row → Type 0
@@ -38,10 +37,6 @@ case-eight = refl
 pub cases-nine-to-eleven : Hold (rowsFrom 9 3)
 unfolding performed
 cases-nine-to-eleven = refl
-
-pub merges : Hold mergeRows
-unfolding performed
-merges = refl
 
 pub free-buddies : Hold buddyRows
 unfolding performed

@@ -2,14 +2,15 @@
 use Rattle.piece.specs.Packed.{seen, sectionIn}
 use Rattle.piece.proofs.Seen.{seen-length, seen-set}
 use Rattle.piece.specs.declared.Piece.{Piece}
-use mathlib.Core.List.{List, [], _++_, _∷_, append-nil}
-use mathlib.Core.Path.{_∙_, _≡_, ap, ap₂, refl, sym}
-use Prim.Native.Nat.{_%_, _*_, _+_, _-_, _<_, _^_, _≤_, suc, zero, ℕ}
+use mathlib.Core.List.{List, [], _++_, append-nil}
+use mathlib.Core.Path.{_∙_, _≡_, ap, ap₂, sym}
+use Prim.Native.Nat.{_%_, _*_, _+_, _-_, _<_, _^_, _≤_, suc, ℕ}
 use native.Mathlib.Nat.{mod-eq-of-lt, mod-le}
 use native.Mathlib.Omega.{arith}
 use lib.ListN.{length, set, take}
 use lib.Seq.{append-snoc}
 use Rattle.layout.proofs.Allocating.{mod-digit}
+use Rattle.layout.proofs.PiecesFrom.{piecesFrom-cons, piecesFrom-nil, piecesFrom-skip}
 use Rattle.layout.specs.Layout.{digit, piecesFrom}
 use Rattle.section.specs.Limits.{greatestDisk, heightCount}
 use Rattle.section.specs.Sections.{section}
@@ -25,31 +26,19 @@ piecesWith c h f = listOf f ++ piecesFrom h c (c - c % 2 ^ h)
 -- ---- one height
 
 module _ (c h : ℕ) where
-  -- by c's digit at h
-  from : ℕ → ℕ → List Section
-  from x d =
-      elim d as (λ _. List Section) [
-        | zero ↦ piecesFrom h c x
-        | suc _ ↦ section x h ∷ piecesFrom h c (x + 2 ^ h)
-      ]
-
-  step : (x : ℕ) → piecesFrom (suc h) c x ≡ from x (digit h c)
-  unfolding piecesFrom from
-  step x = refl
-
   -- no piece of this height
   pub pieces-skip : (f : Pieces) → digit h c ≡ 0 → piecesWith c h f ≡ piecesWith c (suc h) f
-  unfolding piecesWith from
+  unfolding piecesWith
   pieces-skip f e =
       let eq : c % 2 ^ suc h ≡ c % 2 ^ h = mod-digit c h ∙ (ap (λ z. z * 2 ^ h + c % 2 ^ h) e ∙ omega arith) in
       ap (λ z. listOf f ++ z)
-      (sym (ap (λ z. piecesFrom (suc h) c (c - z)) eq ∙ (step (c - c % 2 ^ h) ∙ ap (from (c - c % 2 ^ h)) e)))
+      (sym (ap (λ z. piecesFrom (suc h) c (c - z)) eq ∙ piecesFrom-skip h c (c - c % 2 ^ h) e))
 
   -- one, which starts where the higher ones end
   pub pieces-push : (f : Pieces) (x : ℕ) (p : Piece) → sectionIn p ≡ section x h → digit h c ≡ 1
       → x ≡ c - c % 2 ^ suc h → f .count < length (f .items)
       → piecesWith c h (record { count = f .count + 1; items = set (f .items) (f .count) p }) ≡ piecesWith c (suc h) f
-  unfolding piecesWith listOf from
+  unfolding piecesWith listOf
   pieces-push f x p k e g l =
       let n = seen-length (f .items) in
       let eq : c % 2 ^ suc h ≡ 2 ^ h + c % 2 ^ h =
@@ -60,7 +49,7 @@ module _ (c h : ℕ) where
       ∙ pushed (seen (f .items)) (f .count) (section x h) (omega arith)) on
       ∙ (append-snoc (take (f .count) (seen (f .items))) (section x h) (piecesFrom h c (x + 2 ^ h))
       ∙ ap (λ z. take (f .count) (seen (f .items)) ++ z)
-      (sym (ap (piecesFrom (suc h) c) (sym g) ∙ (step x ∙ ap (from x) e))))
+      (sym (ap (piecesFrom (suc h) c) (sym g) ∙ piecesFrom-cons h c x e)))
 
 -- ---- from the first height to the last
 
@@ -73,6 +62,8 @@ pieces-start c f p e =
     ap₂ (λ a y. a ++ piecesFrom heightCount c y) e z
 
 pub pieces-end : (c h : ℕ) (f : Pieces) → h ≡ 0 → listOf f ≡ piecesWith c h f
-unfolding piecesWith piecesFrom
+unfolding piecesWith
 pieces-end c h f e =
-    sym (append-nil (listOf f)) ∙ ap (λ k. listOf f ++ piecesFrom k c (c - c % 2 ^ h)) (sym e)
+    let x = c - c % 2 ^ h in
+    sym (append-nil (listOf f))
+    ∙ ap (λ l. listOf f ++ l) (sym (piecesFrom-nil c x) ∙ ap (λ k. piecesFrom k c x) (sym e))

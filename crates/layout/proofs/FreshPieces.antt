@@ -1,7 +1,8 @@
 -- The free pieces of a fresh disk are one for each 1 of C, longest first, one after another from block 0 on: the law,
 -- and cases 1 to 3 with other disks in literal numbers. Assumes nothing.
-use mathlib.Core.List.{List, [], _∷_}
-use mathlib.Core.Path.{_∙_, _≡_, ap, refl}
+use mathlib.Core.List.{[], _∷_}
+use mathlib.Core.Logic.{_⊎_, inl, inr}
+use mathlib.Core.Path.{_∙_, _≡_, ap, refl, subst, sym}
 use Prim.Native.Nat.{_%_, _+_, _<_, _^_, suc, zero, ℕ}
 use native.Mathlib.Nat.{mod-eq-of-lt, zero-mod}
 use native.Mathlib.Omega.{arith}
@@ -10,25 +11,20 @@ use Rattle.layout.proofs.Cover.{covers-size}
 use Rattle.layout.proofs.Fresh.{laid}
 use Rattle.layout.proofs.Lists.{pairwise-imp}
 use Rattle.layout.proofs.Ones.{distinct-ones}
+use Rattle.layout.proofs.PiecesFrom.{digit-zero-or-one, piecesFrom-cons, piecesFrom-nil, piecesFrom-skip}
 use Rattle.layout.specs.Cases.{fresh}
 use Rattle.layout.specs.Covering.{FreshPieces, RunFrom, none, then}
 use Rattle.layout.specs.Layout.{digit, freshLayout, inRange, piecesFrom}
 use Rattle.section.specs.Sections.{section}
-use Rattle.section.specs.declared.Section.{Section}
 
 run : (k n x : ℕ) → RunFrom x (piecesFrom k n x)
-unfolding piecesFrom
-run zero n x = none
-run (suc k) n x = go (digit k n) (run k n x) (run k n (x + 2 ^ k))
+run zero n x = subst (RunFrom x) (sym (piecesFrom-nil n x)) none
+run (suc k) n x = go (digit-zero-or-one k n) (run k n x) (run k n (x + 2 ^ k))
   where
-    go : (d : ℕ) → RunFrom x (piecesFrom k n x) → RunFrom (x + 2 ^ k) (piecesFrom k n (x + 2 ^ k))
-        → RunFrom x
-        (elim d as (λ _. List Section) [
-          | zero ↦ piecesFrom k n x
-          | suc _ ↦ section x k ∷ piecesFrom k n (x + 2 ^ k)
-        ])
-    go zero a b = a
-    go (suc d) a b = then {s = section x k} refl b
+    go : (digit k n ≡ 0) ⊎ (digit k n ≡ 1) → RunFrom x (piecesFrom k n x)
+        → RunFrom (x + 2 ^ k) (piecesFrom k n (x + 2 ^ k)) → RunFrom x (piecesFrom (suc k) n x)
+    go (inl e) a b = subst (RunFrom x) (sym (piecesFrom-skip k n x e)) a
+    go (inr e) a b = subst (RunFrom x) (sym (piecesFrom-cons k n x e)) (then {s = section x k} refl b)
 
 pub fresh-pieces : (k c : ℕ) → c < 2 ^ k → FreshPieces c (freshLayout k c)
 unfolding freshLayout

@@ -33,6 +33,7 @@ pub mod SoundSums
 pub mod Finding
 pub mod Removed
 pub mod Added
+pub mod PiecesFrom
 pub mod Fresh
 pub mod Ones
 pub mod FreshPieces

@@ -1,6 +1,7 @@
 -- Pairs of the large catalogue, literally: four bytes a field, lengths up to 1,048,576. Assumes nothing.
 use mathlib.Core.List.{[], _∷_}
 use mathlib.Core.Path.{_≡_, refl}
+use Rattle.catalogue.proofs.Grouping.{pairBytes-parts}
 use Rattle.catalogue.specs.Encoding.{bigEndian, pairBytes}
 use Rattle.catalogue.specs.Reading.{bad, got, readFrom, readPair}
 use Rattle.catalogue.specs.Version.{version2}
@@ -10,8 +11,8 @@ use Rattle.section.specs.Sections.{section}
 -- the last block of the greatest disk
 pub last-block-bytes : pairBytes (version2 .width) (section 1048575 0)
     ≡ 0 ∷ 15 ∷ 255 ∷ 255 ∷ 0 ∷ 0 ∷ 0 ∷ 1 ∷ []
-unfolding pairBytes bigEndian
-last-block-bytes = refl
+unfolding bigEndian
+last-block-bytes = pairBytes-parts (version2 .width) (section 1048575 0)
 
 pub last-block-read : readPair (version2 .width) (0 ∷ 15 ∷ 255 ∷ 255 ∷ 0 ∷ 0 ∷ 0 ∷ 1 ∷ [])
     ≡ got (section 1048575 0) []

@@ -1,7 +1,7 @@
 -- What is encoded is read back: pairs and entries from their bytes. Assumes nothing.
 use mathlib.Core.Bool.{cond, false, true}
 use mathlib.Core.List.{List, _++_, _∷_}
-use mathlib.Core.Path.{_∙_, _≡_, ap, refl, sym}
+use mathlib.Core.Path.{_∙_, _≡_, ap, sym}
 use Prim.Native.Nat.{_-_, _<_, _^_, _≤_, suc, ℕ}
 use native.Mathlib.Omega.{arith}
 use lib.Count.{ones}
@@ -9,7 +9,7 @@ use lib.Dec.{ltb}
 use lib.ListN.{length}
 use borrow.Author.Tests.{eq-eqb, lt-ltb}
 use Rattle.catalogue.proofs.Fields.{field-back}
-use Rattle.catalogue.proofs.Grouping.{entries-cons, entry-fields, pairs-cons}
+use Rattle.catalogue.proofs.Grouping.{entries-cons, entriesBytes-nil, entry-fields, pairs-cons, pairsBytes-nil}
 use Rattle.catalogue.proofs.Sorting.{sort-back}
 use Rattle.catalogue.proofs.Tests.{and-intro, pairs-pairwise}
 use Rattle.catalogue.specs.Encoding.{bigEndian, byteValues, entriesBytes, entryBytes, pairsBytes}
@@ -48,8 +48,8 @@ module _ (w : ℕ) where
 
   pub pairs-back : {l : List Section} (r : List ℕ) → Each (Fits w) l
       → readPairs (length l) w (pairsBytes w l ++ r) ≡ got l r
-  unfolding readPairs pairsBytes
-  pairs-back r done = refl
+  unfolding readPairs
+  pairs-back r done = ap (λ z. readPairs 0 w (z ++ r)) (pairsBytes-nil w)
   pairs-back r (more {a = s} {l = l} p e) =
       ap (readPairs (suc (length l)) w) (pairs-cons w s l r)
       ∙ (ap (λ z. then z λ s r. then (readPairs (length l) w r) λ l r′. got (s ∷ l) r′)
@@ -106,8 +106,8 @@ module _ (w : ℕ) where
 
   pub entries-back : {fs : List File} (r : List ℕ) → Each FileFits fs
       → readEntries (length fs) w (entriesBytes w fs ++ r) ≡ got fs r
-  unfolding readEntries entriesBytes
-  entries-back r done = refl
+  unfolding readEntries
+  entries-back r done = ap (λ z. readEntries 0 w (z ++ r)) (entriesBytes-nil w)
   entries-back r (more {a = f} {l = fs} p e) =
       ap (readEntries (suc (length fs)) w) (entries-cons w f fs r)
       ∙ (ap (λ z. then z λ f r. then (readEntries (length fs) w r) λ l r′. got (f ∷ l) r′)

@@ -9,7 +9,7 @@ use lib.Dec.{eqb, ltb}
 use lib.ListN.{length}
 use borrow.Author.Tests.{eqb-true, ltb-true}
 use Rattle.catalogue.proofs.Fields.{field-inv}
-use Rattle.catalogue.proofs.Grouping.{entries-cons, entry-fields, pairs-cons}
+use Rattle.catalogue.proofs.Grouping.{entries-cons, entriesBytes-nil, entry-fields, pairs-cons, pairsBytes-nil}
 use Rattle.catalogue.proofs.Sorting.{firsts-back}
 use Rattle.catalogue.proofs.Tests.{pairwise-pairs}
 use Rattle.catalogue.specs.Encoding.{Bytes, bigEndian, entriesBytes, entryBytes, pairsBytes}
@@ -72,11 +72,12 @@ module _ (w : ℕ) where
 
   pub pairs-inv : (c : ℕ) (bs : List ℕ) (l : List Section) (r : List ℕ) → Bytes bs → readPairs c w bs ≡ got l r
       → (bs ≡ pairsBytes w l ++ r) × Bytes r
-  unfolding readPairs pairsBytes
+  unfolding readPairs
   pairs-inv zero bs l r b e =
       let p = got-value [] l bs r e in
       let q = got-rest [] l bs r e in
-      (subst (λ z. bs ≡ pairsBytes w z ++ r) p q, subst Bytes q b)
+      let o : bs ≡ pairsBytes w [] ++ r = q ∙ sym (ap (λ z. z ++ r) (pairsBytes-nil w)) in
+      (subst (λ z. bs ≡ pairsBytes w z ++ r) p o, subst Bytes q b)
   pairs-inv (suc c) bs l r b e =
       let x = then-inv (readPair w bs) (λ s r. then (readPairs c w r) λ l r′. got (s ∷ l) r′) l r e in
       let p = pair-inv bs (x .0) (x .1) b (x .2) in
@@ -154,11 +155,12 @@ module _ (w : ℕ) where
 
   pub entries-inv : (c : ℕ) (bs : List ℕ) (fs : List File) (r : List ℕ) → Bytes bs → readEntries c w bs ≡ got fs r
       → (bs ≡ entriesBytes w fs ++ r) × (length fs ≡ c) × Bytes r
-  unfolding readEntries entriesBytes
+  unfolding readEntries
   entries-inv zero bs fs r b e =
       let p = got-value [] fs bs r e in
       let q = got-rest [] fs bs r e in
-      (subst (λ z. bs ≡ entriesBytes w z ++ r) p q, ap length (sym p), subst Bytes q b)
+      let o : bs ≡ entriesBytes w [] ++ r = q ∙ sym (ap (λ z. z ++ r) (entriesBytes-nil w)) in
+      (subst (λ z. bs ≡ entriesBytes w z ++ r) p o, ap length (sym p), subst Bytes q b)
   entries-inv (suc c) bs fs r b e =
       let x = then-inv (readEntry w bs) (λ f r. then (readEntries c w r) λ l r′. got (f ∷ l) r′) fs r e in
       let p = entry-inv bs (x .0) (x .1) b (x .2) in

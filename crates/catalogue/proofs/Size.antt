@@ -9,6 +9,8 @@ use lib.Count.{ones, ones-cat, ones-le, onesIn}
 use lib.ListN.{length, length-append, length-replicate, replicate}
 use lib.Pow.{pow-pos}
 use Rattle.catalogue.proofs.Fields.{bigEndian-bytes, bigEndian-length}
+use Rattle.catalogue.proofs.Grouping.{entriesBytes-cons, entriesBytes-nil, entryBytes-parts, headerBytes-parts}
+use Rattle.catalogue.proofs.Grouping.{pairBytes-parts, pairsBytes-cons, pairsBytes-nil, usedBytes-parts}
 use Rattle.catalogue.specs.Encoding.{Bytes, bigEndian, encode, entriesBytes, entryBytes, headerBytes, pairBytes}
 use Rattle.catalogue.specs.Encoding.{pairsBytes, usedBytes}
 use Rattle.catalogue.specs.Roomy.{Roomy, usedMost}
@@ -40,26 +42,27 @@ ones-most k n pos p = go (below-or-not n (2 ^ k))
         let e : n ≡ 1 * 2 ^ k + 0 = omega arith in
         omega (arith, ap ones e, ones-cat k 1 0 (pow-pos k), ones-of-one, ones-of-zero)
 
+pub pair-length : (w : ℕ) (s : Section) → length (pairBytes w s) ≡ w + w
+pair-length w s = simp (pairBytes-parts, length-append, bigEndian-length)
+
 pub pairs-length : (w : ℕ) (l : List Section) → length (pairsBytes w l) ≡ 2 * w * length l
-unfolding pairsBytes pairBytes
-pairs-length w [] = omega arith
+pairs-length w [] = omega (arith, ap length (pairsBytes-nil w))
 pairs-length w (s ∷ l) =
     omega (
       arith,
-      length-append (bigEndian w (s .first) ++ bigEndian w (lengthOf s)) (pairsBytes w l),
-      length-append (bigEndian w (s .first)) (bigEndian w (lengthOf s)),
-      bigEndian-length w (s .first),
-      bigEndian-length w (lengthOf s),
+      ap length (pairsBytes-cons w s l),
+      length-append (pairBytes w s) (pairsBytes w l),
+      pair-length w s,
       pairs-length w l,
       mul-suc (2 * w) (length l),
     )
 
 entry-length : (w : ℕ) (f : File) → length (entryBytes w f) ≡ shortField + w + 2 * w * length (f .pieces)
-unfolding entryBytes
 entry-length w f =
     let l = sortBy byFirst (f .pieces) in
     omega (
       arith,
+      ap length (entryBytes-parts w f),
       length-append (bigEndian shortField (f .id)) (bigEndian w (fileBlocks f) ++ pairsBytes w l),
       length-append (bigEndian w (fileBlocks f)) (pairsBytes w l),
       bigEndian-length shortField (f .id),
@@ -70,11 +73,11 @@ entry-length w f =
 
 entries-most : (w p : ℕ) {fs : List File} → Each (λ (f : File). length (f .pieces) ≤ p) fs
     → length (entriesBytes w fs) ≤ length fs * (shortField + w + 2 * w * p)
-unfolding entriesBytes
-entries-most w p done = omega arith
+entries-most w p done = omega (arith, ap length (entriesBytes-nil w))
 entries-most w p (more {a = f} {l = fs} q e) =
     omega (
       arith,
+      ap length (entriesBytes-cons w f fs),
       length-append (entryBytes w f) (entriesBytes w fs),
       entry-length w f,
       entries-most w p e,
@@ -107,7 +110,6 @@ module _ (v : Version) (room : Roomy v) (l : Layout) (s : Sound (v .heights) l) 
 
   -- at most so many bytes are used
   pub used-most : length (usedBytes v l) ≤ usedMost v
-  unfolding usedBytes headerBytes
   used-most =
       let w = v .width in
       let n = bigEndian shortField (v .number) in
@@ -117,7 +119,9 @@ module _ (v : Version) (room : Roomy v) (l : Layout) (s : Sound (v .heights) l) 
       let p = pairsBytes w (l .free) in
       omega (
         arith,
-        length-append (n ++ (c ++ k)) (e ++ p),
+        ap length (usedBytes-parts v l),
+        ap length (headerBytes-parts v l),
+        length-append (headerBytes v l) (e ++ p),
         length-append n (c ++ k),
         length-append c k,
         length-append e p,
@@ -144,30 +148,36 @@ module _ (v : Version) (room : Roomy v) (l : Layout) (s : Sound (v .heights) l) 
 -- ---- every byte of an encoding is a byte, whatever the layout
 
 pairs-bytes : (w : ℕ) (l : List Section) → Bytes (pairsBytes w l)
-unfolding pairsBytes pairBytes
-pairs-bytes w [] = done
+pairs-bytes w [] = rw (pairsBytes-nil w) done
 pairs-bytes w (s ∷ l) =
-    each-append (each-append (bigEndian-bytes w (s .first)) (bigEndian-bytes w (lengthOf s))) (pairs-bytes w l)
+    rw (pairsBytes-cons w s l, pairBytes-parts w s)
+    (each-append (each-append (bigEndian-bytes w (s .first)) (bigEndian-bytes w (lengthOf s))) (pairs-bytes w l))
 
 entries-bytes : (w : ℕ) (fs : List File) → Bytes (entriesBytes w fs)
-unfolding entriesBytes entryBytes
-entries-bytes w [] = done
+entries-bytes w [] = rw (entriesBytes-nil w) done
 entries-bytes w (f ∷ fs) =
-    each-append
+    rw (entriesBytes-cons w f fs, entryBytes-parts w f)
+    (each-append
     (each-append (bigEndian-bytes shortField (f .id))
     (each-append (bigEndian-bytes w (fileBlocks f)) (pairs-bytes w (sortBy byFirst (f .pieces)))))
-    (entries-bytes w fs)
+    (entries-bytes w fs))
+
+header-bytes : (v : Version) (l : Layout) → Bytes (headerBytes v l)
+header-bytes v l =
+    rw (headerBytes-parts v l)
+    (each-append (bigEndian-bytes shortField (v .number))
+    (each-append (bigEndian-bytes (v .width) (l .blocks)) (bigEndian-bytes shortField (length (l .files)))))
+
+used-bytes : (v : Version) (l : Layout) → Bytes (usedBytes v l)
+used-bytes v l =
+    rw (usedBytes-parts v l)
+    (each-append (header-bytes v l)
+    (each-append (entries-bytes (v .width) (l .files)) (pairs-bytes (v .width) (l .free))))
 
 zeros-bytes : (n : ℕ) → Bytes (replicate n 0)
 zeros-bytes zero = done
 zeros-bytes (suc n) = more {a = 0} (omega arith) (zeros-bytes n)
 
 pub encode-bytes : (v : Version) (l : Layout) → Bytes (encode v l)
-unfolding encode usedBytes headerBytes
-encode-bytes v l =
-    each-append
-    (each-append
-    (each-append (bigEndian-bytes shortField (v .number))
-    (each-append (bigEndian-bytes (v .width) (l .blocks)) (bigEndian-bytes shortField (length (l .files)))))
-    (each-append (entries-bytes (v .width) (l .files)) (pairs-bytes (v .width) (l .free))))
-    (zeros-bytes (v .bytes - length (usedBytes v l)))
+unfolding encode
+encode-bytes v l = each-append (used-bytes v l) (zeros-bytes (v .bytes - length (usedBytes v l)))

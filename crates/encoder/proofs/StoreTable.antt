@@ -1,6 +1,6 @@
 -- The bytes of a whole layout: the room that a sound one has, and all parts together. Assumes nothing.
 use mathlib.Core.List.{List, [], _++_}
-use mathlib.Core.Path.{_∙_, _≡_, ap, ap₂, sym}
+use mathlib.Core.Path.{_∙_, _≡_, ap, ap₂, subst, sym}
 use Prim.Native.Nat.{_+_, _-_, _<_, _≤_, ℕ}
 use native.Mathlib.Omega.{arith}
 use lib.ListN.{length, length-append, length-map, replicate, take}
@@ -14,9 +14,10 @@ use Rattle.layout.specs.Sound.{Sound}
 use Rattle.table.specs.Tables.{Sized, fileOf, filesOf}
 use Rattle.table.specs.declared.Table.{Table}
 use Rattle.catalogue.proofs.Fields.{bigEndian-length}
+use Rattle.catalogue.proofs.Grouping.{entriesBytes-nil, headerBytes-parts, usedBytes-parts}
 use Rattle.catalogue.proofs.Roomy.{roomy}
 use Rattle.catalogue.proofs.Size.{used-most}
-use Rattle.catalogue.specs.Encoding.{encode, entriesBytes, headerBytes, pairsBytes, usedBytes}
+use Rattle.catalogue.specs.Encoding.{encode, entriesBytes, pairsBytes, usedBytes}
 use Rattle.catalogue.specs.Version.{OneOf, shortField, versions}
 use Rattle.catalogue.specs.declared.Version.{Version}
 use Rattle.pieces.specs.Pieces.{Low}
@@ -48,8 +49,9 @@ module _ (v : Version) (known : OneOf v versions) (y : Layout) (n : ℕ) (count 
   free = pairsBytes (v .width) (y .free)
 
   used-parts : usedBytes v y ≡ header ++ (files ++ free)
-  unfolding usedBytes headerBytes
-  used-parts = sym (ap (λ m. headerFields v (y .blocks) m ++ (files ++ free)) count)
+  used-parts =
+      usedBytes-parts v y
+      ∙ ap (λ h. h ++ (files ++ free)) (headerBytes-parts v y ∙ ap (headerFields v (y .blocks)) (sym count))
 
   used-room : Room cat 0 (header ++ (files ++ free))
   used-room = rw (← used-parts) (omega (arith, used-most v (roomy known) y sound, roomy known .room))
@@ -95,5 +97,4 @@ fresh-low k most n l sound = each-imp (λ (s : Section) (h : s .height .value < 
 
 -- and no entry is written
 pub no-entries : (w : ℕ) (cat : List ℕ) (at : ℕ) → Written cat at (entriesBytes w []) cat at
-unfolding entriesBytes
-no-entries w cat at = written-none cat at
+no-entries w cat at = subst (λ l. Written cat at l cat at) (sym (entriesBytes-nil w)) (written-none cat at)

@@ -11,6 +11,7 @@ use Rattle.piece_lists.proofs.Arrays.{length-of-mapped}
 use Rattle.piece_lists.proofs.EachItem.{each-taken}
 use Rattle.table.specs.Tables.{fileOf, filesOf, layoutOf}
 use Rattle.table.specs.declared.Entry.{Entry}
+use Rattle.catalogue.proofs.Grouping.{entriesBytes-cons, entriesBytes-nil}
 use Rattle.catalogue.specs.Encoding.{entriesBytes, entryBytes}
 use Rattle.encoder.specs.Store.{Written}
 use Rattle.encoder.proofs.StoreLists.{list-more, list-none, list-room}
@@ -51,7 +52,6 @@ write-header-requires c κs =
     (s .pre .0 .1)
 
 loop-holds : tie.Need-loop-holds Inv-loop μ-loop
-unfolding entriesBytes
 loop-holds c =
     let h = c .before .before .write-header in
     let s = c .before .before .before .before .before .args in
@@ -59,8 +59,9 @@ loop-holds c =
       refl,
       search (needs, length-of-mapped),
       omega arith,
-      list-none (λ (e : Entry). entryBytes width (fileOf e)) (λ l. entriesBytes width (map fileOf l)) refl
-          (λ a l. refl) (s .t3 .files) (h .last .0) (h .result),
+      list-none (λ (e : Entry). entryBytes width (fileOf e)) (λ l. entriesBytes width (map fileOf l))
+          (entriesBytes-nil width) (λ a l. entriesBytes-cons width (fileOf a) (map fileOf l))
+          (s .t3 .files) (h .last .0) (h .result),
     )
 
 mul-e : tie.Need-mul-e Inv-loop μ-loop
@@ -70,7 +71,7 @@ element-copy-out-e : tie.Need-element-copy-out-e Inv-loop μ-loop
 element-copy-out-e c = search needs
 
 write-entry-requires : tie.Need-write-entry-requires Inv-loop μ-loop
-unfolding entriesBytes filesOf layoutOf
+unfolding filesOf layoutOf
 write-entry-requires c κs =
     let l = c .before .before .before .loop in
     let h = c .before .before .before .before .before .before .write-header in
@@ -81,9 +82,9 @@ write-entry-requires c κs =
     let width = s .args .version .width in (
       each-taken (t .files) (t .count) _ _ (omega arith)
           (files-low t (s .pre .1 .0) (wide (s .pre .0 .0) (s .pre .1 .1)) .each) (omega arith),
-      list-room (λ (e : Entry). entryBytes width (fileOf e)) (λ l. entriesBytes width (map fileOf l)) refl
-          (λ a l. refl) (t .files) _ (h .last .0) (l .cat) (h .result) (t .count) (l .i) (l .next) (omega arith)
-          (omega arith)
+      list-room (λ (e : Entry). entryBytes width (fileOf e)) (λ l. entriesBytes width (map fileOf l))
+          (entriesBytes-nil width) (λ a l. entriesBytes-cons width (fileOf a) (map fileOf l))
+          (t .files) _ (h .last .0) (l .cat) (h .result) (t .count) (l .i) (l .next) (omega arith) (omega arith)
           (files-room (s .args .version) (s .pre .0 .0) (layoutOf t) (t .count) k (s .pre .1 .1) (s .args .cat .now)
           (s .pre .0 .1) (h .last .0) (h .result) (h .ensures)) (l .inv .3),
     )
@@ -95,7 +96,6 @@ loop-less : tie.Need-loop-less Inv-loop μ-loop
 loop-less c = search needs
 
 loop-again : tie.Need-loop-again Inv-loop μ-loop
-unfolding entriesBytes
 loop-again c =
     let l = c .before .before .before .before .before .before .loop in
     let h = c .before .before .before .before .before .before .before .before .before .write-header in
@@ -106,8 +106,9 @@ loop-again c =
       refl,
       n,
       omega arith,
-      list-more (λ (e : Entry). entryBytes width (fileOf e)) (λ l. entriesBytes width (map fileOf l)) refl
-          (λ a l. refl) (t .files) _ (h .last .0) (l .cat) _ (h .result) (l .i) (l .next) _ (omega arith) (l .inv .3)
+      list-more (λ (e : Entry). entryBytes width (fileOf e)) (λ l. entriesBytes width (map fileOf l))
+          (entriesBytes-nil width) (λ a l. entriesBytes-cons width (fileOf a) (map fileOf l))
+          (t .files) _ (h .last .0) (l .cat) _ (h .result) (l .i) (l .next) _ (omega arith) (l .inv .3)
           (c .before .before .write-entry .ensures),
     )
 

@@ -2,7 +2,8 @@
 use native.Mathlib.Omega.{arith}
 use borrow.Author.Needs.{needs}
 use Rattle.catalogue.proofs.Fields.{bigEndian-length}
-use Rattle.encoder.proofs.StoreEntry.{pair-length, pair-written}
+use Rattle.catalogue.proofs.Size.{pair-length}
+use Rattle.encoder.proofs.StoreEntry.{pair-written}
 use Rattle.encoder.proofs.storing.write_pair.Statement.{statement}
 use Rattle.encoder.proofs.storing.write_pair.Tie as tie
 

@@ -12,6 +12,7 @@ use Rattle.piece_lists.proofs.Arrays.{length-of-mapped}
 use Rattle.piece_lists.specs.Few.{listOf, piecePlaces}
 use Rattle.piece_lists.specs.Few.{listOf}
 use Rattle.pieces.specs.Pieces.{Low}
+use Rattle.catalogue.proofs.Grouping.{pairsBytes-cons, pairsBytes-nil}
 use Rattle.catalogue.specs.Encoding.{pairBytes, pairsBytes}
 use Rattle.encoder.specs.Store.{Room, Written}
 use Rattle.encoder.proofs.StoreLists.{list-more, list-none, list-room}
@@ -26,14 +27,14 @@ abbrev μ-loop : tie.MeasureT-loop
 μ-loop cat₀ at width l count next₀ i₀ cat next i = count - i
 
 loop-holds : tie.Need-loop-holds Inv-loop μ-loop
-unfolding pairsBytes
-loop-holds c = (
-  refl,
-  omega arith,
-  list-none (pairBytes (c .before .args .width)) (pairsBytes (c .before .args .width)) refl (λ a l. refl)
-      (seen (c .before .args .t4 .items)) (c .before .args .cat .now)
-      (c .before .args .at),
-)
+loop-holds c =
+    let w = c .before .args .width in (
+      refl,
+      omega arith,
+      list-none (pairBytes w) (pairsBytes w) (pairsBytes-nil w) (pairsBytes-cons w)
+          (seen (c .before .args .t4 .items)) (c .before .args .cat .now)
+          (c .before .args .at),
+    )
 
 mul-piece : tie.Need-mul-piece Inv-loop μ-loop
 mul-piece c = search needs
@@ -42,7 +43,7 @@ element-copy-out-piece : tie.Need-element-copy-out-piece Inv-loop μ-loop
 element-copy-out-piece c = search needs
 
 write-pair-requires : tie.Need-write-pair-requires Inv-loop μ-loop
-unfolding pairsBytes listOf
+unfolding listOf
 write-pair-requires c κs =
     let s = c .before .before .before .before .before .before in
     let l = c .before .before .before .before .loop in
@@ -54,8 +55,9 @@ write-pair-requires c κs =
       each-read {P = Low} (p .items) (p .count) (l .i) (c .before .section .result) (omega arith) (s .pre .1 .0)
           (omega arith) (c .before .section .ensures),
       subst (λ z. Room (l .cat) (l .next) (pairBytes w z)) x
-          (list-room (pairBytes w) (pairsBytes w) refl (λ a l. refl) (seen (p .items)) (section 0 0) (s .args .cat .now)
-          (l .cat) (s .args .at) (p .count) (l .i) (l .next) (omega arith) (omega arith) (s .pre .1 .1) (l .inv .2)),
+          (list-room (pairBytes w) (pairsBytes w) (pairsBytes-nil w) (pairsBytes-cons w) (seen (p .items)) (section 0 0)
+          (s .args .cat .now) (l .cat) (s .args .at) (p .count) (l .i) (l .next) (omega arith) (omega arith)
+          (s .pre .1 .1) (l .inv .2)),
     )
 
 add-i : tie.Need-add-i Inv-loop μ-loop
@@ -65,7 +67,6 @@ loop-less : tie.Need-loop-less Inv-loop μ-loop
 loop-less c = search needs
 
 loop-again : tie.Need-loop-again Inv-loop μ-loop
-unfolding pairsBytes
 loop-again c =
     let s = c .before .before .before .before .before .before .before .before .before in
     let l = c .before .before .before .before .before .before .before .loop in
@@ -77,8 +78,8 @@ loop-again c =
     let y = c .before .before .write-pair in (
       refl,
       omega arith,
-      list-more (pairBytes w) (pairsBytes w) refl (λ a l. refl) (seen (p .items)) (section 0 0) (s .args .cat .now)
-          (l .cat) (y .last .0) (s .args .at) (l .i) (l .next) (y .result) (omega arith) (l .inv .2)
+      list-more (pairBytes w) (pairsBytes w) (pairsBytes-nil w) (pairsBytes-cons w) (seen (p .items)) (section 0 0)
+          (s .args .cat .now) (l .cat) (y .last .0) (s .args .at) (l .i) (l .next) (y .result) (omega arith) (l .inv .2)
           (subst (λ z. Written (l .cat) (l .next) (pairBytes w z) (y .last .0) (y .result)) (sym x) (y .ensures)),
     )
 

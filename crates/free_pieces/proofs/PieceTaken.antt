@@ -11,6 +11,7 @@ use Rattle.layout.proofs.Allocating.{height-lt}
 use Rattle.layout.proofs.Lists.{each-imp}
 use Rattle.layout.proofs.Ones.{at-most-one-ones}
 use Rattle.layout.proofs.Splitting.{TakesPiece, TakesPieceOf, at-most-one-small, takePiece-is}
+use Rattle.layout.proofs.Taking.{takePiece-highest, takePiece-or-split}
 use Rattle.layout.specs.Adding.{Taken, nothing, orElse, splitAt, takeOfHeight, takePiece, taken}
 use Rattle.layout.specs.Allocations.{Stock}
 use Rattle.layout.specs.Layout.{byFirst}
@@ -25,17 +26,29 @@ use Rattle.free_pieces.specs.Taking.{Stocked, ToHalve, Yields, splitPiec
 use Rattle.free_pieces.specs.declared.Drawn.{Drawn}
 use Rattle.free_pieces.specs.declared.Free.{Free}
 
+-- with no height above h nothing is split
+splitPiece-highest : (h : ℕ) (free : List Section) → splitPiece 0 h free ≡ nothing
+unfolding splitPiece
+splitPiece-highest h free = refl
+
+-- else what is taken a height up
+splitPiece-below : (k h : ℕ) (free : List Section) → splitPiece (suc k) h free ≡ splitAt h (takePiece k (suc h) free)
+unfolding splitPiece
+splitPiece-below k h free = refl
+
 -- ---- take, or else split
 
 takePiece-or : (k h : ℕ) (free : List Section)
     → takePiece k h free ≡ orElse (takeOfHeight h free) (splitPiece k h free)
-unfolding takePiece splitPiece
-takePiece-or zero h free = go (takeOfHeight h free)
+takePiece-or zero h free =
+    takePiece-highest h free
+    ∙ (go (takeOfHeight h free) ∙ ap (orElse (takeOfHeight h free)) (sym (splitPiece-highest h free)))
   where
     go : (t : Taken) → t ≡ orElse t nothing
     go (taken s r) = refl
     go nothing = refl
-takePiece-or (suc k) h free = refl
+takePiece-or (suc k) h free =
+    takePiece-or-split k h free ∙ ap (orElse (takeOfHeight h free)) (sym (splitPiece-below k h free))
 
 pub taken-here : (k h : ℕ) (free : List Section) (d : Drawn) → takenOf d ≡ takeOfHeight h free → d .found ≡ true
     → takenOf d ≡ takePiece k h free
@@ -52,16 +65,16 @@ taken-split k h free d q e f s =
 
 pub split-top : (h : ℕ) (free : List Section) → h ≡ greatestHeight
     → nothing ≡ splitPiece (greatestHeight - h) h free
-unfolding splitPiece
-split-top h free e = let z : greatestHeight - h ≡ 0 = omega arith in ap (λ k. splitPiece k h free) (sym z)
+split-top h free e =
+    let z : greatestHeight - h ≡ 0 = omega arith in
+    sym (splitPiece-highest h free) ∙ ap (λ k. splitPiece k h free) (sym z)
 
 split-on : (h : ℕ) (free : List Section) → h < greatestHeight
     → splitAt h (takePiece (greatestHeight - (h + 1)) (h + 1) free) ≡ splitPiece (greatestHeight - h) h free
-unfolding splitPiece
 split-on h free l =
     let z : greatestHeight - h ≡ suc (greatestHeight - (h + 1)) = omega arith in
     ap (λ j. splitAt h (takePiece (greatestHeight - (h + 1)) j free)) (add-one h)
-    ∙ ap (λ k. splitPiece k h free) (sym z)
+    ∙ (sym (splitPiece-below (greatestHeight - (h + 1)) h free) ∙ ap (λ k. splitPiece k h free) (sym z))
 
 module _ (h : ℕ) (free : List Section) (d : Drawn) (l : h < greatestHeight)
     (e : takenOf d ≡ takePiece (greatestHeight - (h + 1)) (h + 1) free) where

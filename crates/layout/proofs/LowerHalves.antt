@@ -6,7 +6,8 @@ use Prim.Native.Nat.{_+_, _^_, suc, zero, ℕ}
 use native.Mathlib.Omega.{arith}
 use Rattle.layout.proofs.Lists.{each-all, each-and, each-imp, sum-insert}
 use Rattle.layout.proofs.MovedPieces.{section-eta}
-use Rattle.layout.proofs.Taking.{TakesOf, nothing-height, takeFirst-is, takes-height}
+use Rattle.layout.proofs.Taking.{TakesOf, nothing-height, takeFirst-is, takePiece-highest, takePiece-or-split}
+use Rattle.layout.proofs.Taking.{takes-height}
 use Rattle.layout.specs.Adding.{Taken, nothing, orElse, splitAt, takeFirst, takePiece, taken}
 use Rattle.layout.specs.Allocations.{ComesFrom, upperHalves}
 use Rattle.layout.specs.Layout.{byFirst, hasHeight}
@@ -61,15 +62,17 @@ from-half {k} {h} {free} {s} {r} none c = record {
     start = ap (λ (x : Section). x .first) (c .piece)
 
 comes : (k h : ℕ) (free : List Section) → ComesFromOf k h free (takePiece k h free)
-unfolding takePiece
-comes zero h free = go (takeFirst (hasHeight h) free) (takeFirst-is (hasHeight h) free)
+comes zero h free =
+    subst (ComesFromOf 0 h free) (sym (takePiece-highest h free))
+    (go (takeFirst (hasHeight h) free) (takeFirst-is (hasHeight h) free))
   where
     go : (p : Taken) → TakesOf (hasHeight h) free p → ComesFromOf 0 h free p
     go (taken s r) q = from-height q
     go nothing q = tt
 comes (suc k) h free =
-    go (takeFirst (hasHeight h) free) (takeFirst-is (hasHeight h) free) (takePiece k (suc h) free)
-    (comes k (suc h) free)
+    subst (ComesFromOf (suc k) h free) (sym (takePiece-or-split k h free))
+    (go (takeFirst (hasHeight h) free) (takeFirst-is (hasHeight h) free) (takePiece k (suc h) free)
+    (comes k (suc h) free))
   where
     go : (p : Taken) → TakesOf (hasHeight h) free p → (t : Taken) → ComesFromOf k (suc h) free t
         → ComesFromOf (suc k) h free (orElse p (splitAt h t))

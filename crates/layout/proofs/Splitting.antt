@@ -10,8 +10,8 @@ use borrow.Author.Tests.{eq-eqb, eqb-false, eqb-true, ne-eqb}
 use Rattle.layout.proofs.Digits.{val-lt, val-size}
 use Rattle.layout.proofs.Lists.{each-and, each-imp, each-insert, sum-insert}
 use Rattle.layout.proofs.Ranges.{inRange-halves, within}
-use Rattle.layout.proofs.Taking.{TakesOf, insert-rising, nothing-height, takeFirst-is, takes-each, takes-height}
-use Rattle.layout.proofs.Taking.{takes-rising, takes-sum}
+use Rattle.layout.proofs.Taking.{TakesOf, insert-rising, nothing-height, takeFirst-is, takePiece-highest}
+use Rattle.layout.proofs.Taking.{takePiece-or-split, takes-each, takes-height, takes-rising, takes-sum}
 use Rattle.layout.specs.Adding.{Taken, nothing, orElse, splitAt, takeFirst, takePiece, taken}
 use Rattle.layout.specs.Allocations.{Stock}
 use Rattle.layout.specs.Choices.{Takes}
@@ -132,15 +132,17 @@ module _ (c : ℕ) where
           )
 
   pub takePiece-is : (k h : ℕ) (free : List Section) → Stock c free → TakesPieceOf c k h free (takePiece k h free)
-  unfolding takePiece
-  takePiece-is zero h free st = go (takeFirst (hasHeight h) free) (takeFirst-is (hasHeight h) free)
+  takePiece-is zero h free st =
+      subst (TakesPieceOf c 0 h free) (sym (takePiece-highest h free))
+      (go (takeFirst (hasHeight h) free) (takeFirst-is (hasHeight h) free))
     where
       go : (p : Taken) → TakesOf (hasHeight h) free p → TakesPieceOf c 0 h free p
       go (taken s r) q = takes-here st q
       go nothing q = each-imp (λ s n a b. n (omega arith)) (nothing-height q)
   takePiece-is (suc k) h free st =
-      go (takeFirst (hasHeight h) free) (takeFirst-is (hasHeight h) free) (takePiece k (suc h) free)
-      (takePiece-is k (suc h) free st)
+      subst (TakesPieceOf c (suc k) h free) (sym (takePiece-or-split k h free))
+      (go (takeFirst (hasHeight h) free) (takeFirst-is (hasHeight h) free) (takePiece k (suc h) free)
+      (takePiece-is k (suc h) free st))
     where
       go : (p : Taken) → TakesOf (hasHeight h) free p → (t : Taken) → TakesPieceOf c k (suc h) free t
           → TakesPieceOf c (suc k) h free (orElse p (splitAt h t))

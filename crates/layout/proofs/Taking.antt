@@ -1,13 +1,15 @@
--- Taking the first section that passes a test, and lists by rising first block. Assumes nothing.
+-- Taking the first section that passes a test, a piece of a height by what is taken a height up, and lists by rising
+-- first block. Assumes nothing.
 use mathlib.Core.Bool.{Bool, false, true}
 use mathlib.Core.List.{List, [], _∷_}
 use mathlib.Core.Path.{_∙_, _≡_, ap, refl}
-use Prim.Native.Nat.{_+_, _≤_, ℕ}
+use Prim.Native.Nat.{_+_, _≤_, suc, ℕ}
 use native.Mathlib.Nat.{le-of-lt, le-trans}
 use native.Mathlib.Omega.{arith}
 use borrow.Author.Tests.{eqb-false, eqb-true, leb-false, leb-true}
 use Rattle.layout.proofs.Lists.{each-imp, insert-sorted, sort-sorted}
-use Rattle.layout.specs.Adding.{Taken, keeping, nothing, takeFirst, taken}
+use Rattle.layout.specs.Adding.{Taken, keeping, nothing, orElse, splitAt, takeFirst, takeOfHeight, takePiece}
+use Rattle.layout.specs.Adding.{taken}
 use Rattle.layout.specs.Choices.{Takes, here, there}
 use Rattle.layout.specs.Covering.{Rising}
 use Rattle.layout.specs.Layout.{byFirst, hasHeight}
@@ -85,6 +87,21 @@ pub takes-lowest : {h : ℕ} {l r : List Section} {s : Section} → Takes (hasHe
 takes-lowest (here e) (next q qs) = each-imp (λ b x _. x) q
 takes-lowest {h} (there {a = a} n x) (next q qs) =
     more (λ e. absurd (eqb-false (a .height .value) h n e)) (takes-lowest x qs)
+
+-- ---- a piece of height h
+
+-- with no height above h it is a free one
+pub takePiece-highest : (h : ℕ) (free : List Section) → takePiece 0 h free ≡ takeOfHeight h free
+unfolding takePiece
+takePiece-highest h free = refl
+
+-- else a free one, or one split from what is taken a height up
+pub takePiece-or-split : (k h : ℕ) (free : List Section)
+    → takePiece (suc k) h free ≡ orElse (takeOfHeight h free) (splitAt h (takePiece k (suc h) free))
+unfolding takePiece
+takePiece-or-split k h free = refl
+
+-- ---- by rising first block
 
 pub insert-rising : (a : Section) {l : List Section} → Rising l → Rising (insertBy byFirst a l)
 insert-rising =

@@ -13,6 +13,7 @@ use Rattle.catalogue.proofs.Roomy.{roomy}
 use Rattle.catalogue.specs.Version.{OneOf, greatestBlocks, versionFor, versions}
 use Rattle.catalogue.specs.declared.Version.{Version}
 use Rattle.manager.proofs.AllHeights.{fresh-in}
+use Rattle.manager.proofs.CallEquations.{formatIn-is}
 use Rattle.encoder.specs.Store.{noFiles}
 use Rattle.layout.specs.Layout.{Layout, freshLayout}
 use Rattle.layout.specs.Sound.{Sound}
@@ -26,16 +27,15 @@ use Rattle.piece_lists.specs.Few.{listOf}
 use Rattle.piece_lists.specs.declared.Pieces.{Pieces}
 
 module _ (cat d : List ℕ) (v : Version) (same : v ≡ versionFor (length cat)) where
-  in-version : formatOutcome cat d ≡ formatIn v cat d
-  in-version = ap (λ u. formatIn u cat d) (sym same)
-
   abbrev formatted : Outcome
   formatted =
       outcome (answered (pageCount d)) (encode v (freshLayout heightCount (pageCount d))) d []
 
+  in-version : formatOutcome cat d ≡ unlessRefused (firstRefusal (formatConditions v cat d)) cat d [] formatted
+  in-version = ap (λ u. formatIn u cat d) (sym same) ∙ formatIn-is v cat d
+
   format-refused : (n : ℕ) → firstRefusal (formatConditions v cat d) ≡ refusal n
       → formatOutcome cat d ≡ outcome (refused n) cat d []
-  unfolding formatIn
   format-refused n e = in-version ∙ ap (λ j. unlessRefused j cat d [] formatted) e
 
   pub format-wrong : (length cat ≡ v .bytes → ⊥) → formatOutcome cat d ≡ outcome (refused 1) cat d []
@@ -75,7 +75,7 @@ module _ (cat d : List ℕ) (v : Version) (same : v ≡ versionFor (length cat))
         format-large lt = no-disk (paged ∙ lt-ltb (greatestBlocks v) (pageCount d) lt)
 
         pub format-done : pageCount d ≤ greatestBlocks v → formatOutcome cat d ≡ formatted
-        unfolding formatIn firstRefusal
+        unfolding firstRefusal
         format-done le =
             in-version
             ∙ (ap (λ j. unlessRefused j cat d [] formatted)

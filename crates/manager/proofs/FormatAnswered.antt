@@ -1,7 +1,7 @@
 -- A format that is answered was given buffers of the right lengths, and answers the number of blocks. Assumes nothing.
 use mathlib.Core.Bool.{Bool, _||_, false, not, true}
 use mathlib.Core.List.{List, [], _∷_}
-use mathlib.Core.Path.{_≡_, refl}
+use mathlib.Core.Path.{_≡_, refl, subst}
 use Prim.Native.Nat.{ℕ}
 use native.Mathlib.Omega.{arith}
 use lib.Dec.{eqb, ltb}
@@ -12,19 +12,21 @@ use Rattle.catalogue.specs.Encoding.{encode}
 use Rattle.catalogue.specs.Version.{greatestBlocks, versionFor}
 use Rattle.catalogue.specs.declared.Version.{Version}
 use Rattle.layout.specs.Layout.{freshLayout}
+use Rattle.manager.proofs.CallEquations.{formatIn-is}
 use Rattle.manager.proofs.Contents.{paged-length}
 use Rattle.manager.proofs.Steps.{answered-same, refused-answered}
-use Rattle.manager.specs.Conditions.{answered, condition, firstRefusal, outcome, unlessRefused, unpaged}
+use Rattle.manager.specs.Conditions.{Outcome, answered, condition, firstRefusal, outcome, unlessRefused, unpaged}
 use Rattle.manager.specs.Disk.{pageCount}
-use Rattle.manager.specs.Outcomes.{formatIn, formatOutcome}
+use Rattle.manager.specs.Outcomes.{formatOutcome}
 use Rattle.manager.specs.WholeList.{RightLengths}
 use Rattle.section.specs.Limits.{heightCount}
 
 pub format-answered : (cat d : List ℕ) (c : ℕ) → formatOutcome cat d .reply ≡ answered c
     → (v : Version) × RightLengths v c cat d
-unfolding formatIn firstRefusal
-format-answered cat d c =
+unfolding firstRefusal
+format-answered cat d c e =
     go (eqb (length cat) (v .bytes)) refl (unpaged d) refl (ltb (greatestBlocks v) (pageCount d)) refl
+    (subst (λ (x : Outcome). x .reply ≡ answered c) (formatIn-is v cat d) e)
   where
     v : Version
     v = versionFor (length cat)

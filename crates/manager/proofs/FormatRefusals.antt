@@ -13,16 +13,17 @@ use Rattle.catalogue.specs.Encoding.{encode}
 use Rattle.catalogue.specs.Version.{OneOf, greatestBlocks, versionFor, versions}
 use Rattle.catalogue.specs.declared.Version.{Version}
 use Rattle.layout.specs.Layout.{freshLayout}
+use Rattle.manager.proofs.CallEquations.{formatIn-is}
 use Rattle.manager.proofs.Catalogues.{decides-length}
 use Rattle.manager.proofs.Deciding.{Decides, decides-below, decides-or}
 use Rattle.manager.proofs.Deciding.{equal-if-never-unequal}
 use Rattle.manager.proofs.Refusals.{answered-not-refused}
 use Rattle.manager.proofs.TableRows.{decides-unpaged}
-use Rattle.manager.specs.Conditions.{answered, condition, firstRefusal, noDisk, outcome, unlessRefused}
+use Rattle.manager.specs.Conditions.{Outcome, answered, condition, firstRefusal, noDisk, outcome, unlessRefused}
 use Rattle.manager.specs.Conditions.{wrongCatalogue}
 use Rattle.manager.specs.Disk.{pageCount}
 use Rattle.manager.specs.Formatting.{FormatRefused, NoVersion, SomeDisk}
-use Rattle.manager.specs.Outcomes.{formatIn, formatOutcome}
+use Rattle.manager.specs.Outcomes.{formatOutcome}
 use Rattle.section.specs.Limits.{blockSize, heightCount}
 
 -- what the condition on the disk tests
@@ -50,8 +51,10 @@ decides-no-disk v d = record { holds = λ e. wrong (test .holds e); fails = λ e
 
 -- when a format is refused, and with which number
 pub format-lowest-refusal : (cat d : List ℕ) → FormatRefused cat d (formatOutcome cat d .reply)
-unfolding formatIn firstRefusal
-format-lowest-refusal cat d = go (wrongCatalogue v cat) (noDisk v d) (decides-length cat) (decides-no-disk v d)
+unfolding firstRefusal
+format-lowest-refusal cat d =
+    subst (λ (x : Outcome). FormatRefused cat d (x .reply)) (sym (formatIn-is v cat d))
+    (go (wrongCatalogue v cat) (noDisk v d) (decides-length cat) (decides-no-disk v d))
   where
     v : Version
     v = versionFor (length cat)

@@ -4,6 +4,7 @@ pub mod FirstPage
 pub mod Writing
 pub mod Lines
 pub mod Contents
+pub mod CallEquations
 pub mod Judging
 pub mod OnRead
 pub mod OnSound

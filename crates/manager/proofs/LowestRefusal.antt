@@ -15,6 +15,7 @@ use Rattle.layout.proofs.Finding.{missing-none}
 use Rattle.layout.specs.Adding.{Allocated, allocate, allocated, tooFew}
 use Rattle.layout.specs.Layout.{File, Found, Layout, breaksOf, findFile, found, freeBlocks, isFound, missing}
 use Rattle.layout.specs.Removing.{copiesOf, removal}
+use Rattle.manager.proofs.CallEquations.{addIn-is, breaksIn-is, checkIn-is, freeIn-is, readIn-is, removeIn-is}
 use Rattle.manager.proofs.ConditionLists.{Judges, LowestOf, NoneOf, Right}
 use Rattle.manager.proofs.Deciding.{equal-if-never-unequal}
 use Rattle.manager.proofs.Refusals.{answered-not-refused}
@@ -25,9 +26,9 @@ use Rattle.manager.specs.Conditions.{Judgement, Outcome, Reply, addCondi
 use Rattle.manager.specs.Conditions.{readConditions, refusal, refused, removeConditions, replyUnless}
 use Rattle.manager.specs.Conditions.{unlessRefused}
 use Rattle.manager.specs.Disk.{pageCount}
-use Rattle.manager.specs.Outcomes.{addIn, addPieces, breaksFound, breaksIn, checkIn, doAdd}
-use Rattle.manager.specs.Outcomes.{doBreaks, doCheck, doFree, doRead, doRemove, freeIn, perform, readFound}
-use Rattle.manager.specs.Outcomes.{readIn, removeFound, removeIn}
+use Rattle.manager.specs.Outcomes.{addPieces, breaksFound, doAdd}
+use Rattle.manager.specs.Outcomes.{doBreaks, doCheck, doFree, doRead, doRemove, perform, readFound}
+use Rattle.manager.specs.Outcomes.{removeFound}
 use Rattle.manager.specs.Table.{By, CatalogueOf, Lowest, Refusal, catalogueLength, idMissing, idOf, noSpace}
 use Rattle.manager.specs.Table.{notSound, numberOf, numbersOf}
 use Rattle.section.specs.Limits.{heightCount}
@@ -53,19 +54,21 @@ unless-reply (refusal n) cat d o x = refl
 pub reply-is : (c : Call) (cat d : List ℕ)
     → perform c cat d .reply
     ≡ replyUnless (firstRefusal (conditionsOf c cat d)) (replyOf c cat d (readCatalogue (versionOf cat) cat))
-unfolding addIn removeIn readIn breaksIn freeIn checkIn
 reply-is (add i bs) cat d =
-    unless-reply (firstRefusal (addConditions (versionOf cat) i bs cat d)) cat d []
+    ap (λ (x : Outcome). x .reply) (addIn-is (versionOf cat) cat i bs d)
+    ∙ unless-reply (firstRefusal (addConditions (versionOf cat) i bs cat d)) cat d []
     (doAdd (versionOf cat) i bs cat d (readCatalogue (versionOf cat) cat))
 reply-is (remove i) cat d =
-    unless-reply (firstRefusal (removeConditions (versionOf cat) i cat d)) cat d []
+    ap (λ (x : Outcome). x .reply) (removeIn-is (versionOf cat) cat i d)
+    ∙ unless-reply (firstRefusal (removeConditions (versionOf cat) i cat d)) cat d []
     (doRemove (versionOf cat) i cat d (readCatalogue (versionOf cat) cat))
 reply-is (read i p o) cat d =
-    unless-reply (firstRefusal (readConditions (versionOf cat) i p o cat d)) cat d o
+    ap (λ (x : Outcome). x .reply) (readIn-is (versionOf cat) cat i p o d)
+    ∙ unless-reply (firstRefusal (readConditions (versionOf cat) i p o cat d)) cat d o
     (doRead i p o cat d (readCatalogue (versionOf cat) cat))
-reply-is (breaks i) cat d = refl
-reply-is free cat d = refl
-reply-is check cat d = refl
+reply-is (breaks i) cat d = breaksIn-is (versionOf cat) cat i
+reply-is free cat d = freeIn-is (versionOf cat) cat
+reply-is check cat d = checkIn-is (versionOf cat) cat d
 
 module _ (cat d : List ℕ) (bytes : Bytes cat) where
   -- no refusal of the table applies

@@ -1,7 +1,7 @@
 -- The calls by what is read from the catalogue: a layout, none, or a buffer of another length. Assumes nothing.
 use mathlib.Core.Bool.{false, not, true}
 use mathlib.Core.List.{List, [], _∷_}
-use mathlib.Core.Path.{_≡_, ap, ap₂}
+use mathlib.Core.Path.{_∙_, _≡_, ap, ap₂}
 use Prim.Native.Nat.{ℕ}
 use lib.ListN.{length}
 use borrow.Author.Tests.{eq-eqb, ne-eqb}
@@ -10,6 +10,7 @@ use Rattle.catalogue.specs.declared.Version.{Version}
 use Rattle.layout.specs.Adding.{allocate}
 use Rattle.layout.specs.Layout.{Layout, findFile, freeBlocks}
 use Rattle.layout.specs.Moves.{right}
+use Rattle.manager.proofs.CallEquations.{addIn-is, breaksIn-is, checkIn-is, freeIn-is, readIn-is, removeIn-is}
 use Rattle.manager.specs.Conditions.{Condition, addChecks, answered, condition, fileChecks, firstRefusal}
 use Rattle.manager.specs.Conditions.{onLayout, outcome, readChecks, refusal, refused, replyUnless}
 use Rattle.manager.specs.Conditions.{unlessRefused, wrongCatalogue, wrongDisk}
@@ -34,46 +35,46 @@ module _ (v : Version) (cat : List ℕ) (l : Layout) (lc : length cat ≡ v .byt
 
   pub breaks-on-read : (i : ℕ)
       → breaksIn v i cat ≡ replyUnless (firstRefusal (fileChecks i l)) (breaksFound (findFile i (l .files)))
-  unfolding breaksIn
-  breaks-on-read i = ap₂ (λ j x. replyUnless j (doBreaks i x)) (past-catalogue (fileChecks i)) rd
+  breaks-on-read i =
+      breaksIn-is v cat i ∙ ap₂ (λ j x. replyUnless j (doBreaks i x)) (past-catalogue (fileChecks i)) rd
 
   pub free-on-read : freeIn v cat ≡ answered (freeBlocks l)
-  unfolding freeIn firstRefusal
-  free-on-read = ap₂ (λ j x. replyUnless j (doFree x)) (past-catalogue (λ l. [])) rd
+  unfolding firstRefusal
+  free-on-read = freeIn-is v cat ∙ ap₂ (λ j x. replyUnless j (doFree x)) (past-catalogue (λ l. [])) rd
 
   -- whatever the disk
   pub add-on-read : (i : ℕ) (bs d : List ℕ)
       → addIn v i bs cat d
       ≡ unlessRefused (firstRefusal (condition 4 (wrongDisk l d) ∷ addChecks i bs l)) cat d []
       (addPieces v i bs cat d l (allocate 0 heightCount (pageCount bs) (l .free)))
-  unfolding addIn
   add-on-read i bs d =
-      ap₂ (λ j x. unlessRefused j cat d [] (doAdd v i bs cat d x))
+      addIn-is v cat i bs d
+      ∙ ap₂ (λ j x. unlessRefused j cat d [] (doAdd v i bs cat d x))
       (past-catalogue (λ m. condition 4 (wrongDisk m d) ∷ addChecks i bs m)) rd
 
   pub remove-on-read : (i : ℕ) (d : List ℕ)
       → removeIn v i cat d
       ≡ unlessRefused (firstRefusal (condition 4 (wrongDisk l d) ∷ fileChecks i l)) cat d []
       (removeFound v cat d l (findFile i (l .files)))
-  unfolding removeIn
   remove-on-read i d =
-      ap₂ (λ j x. unlessRefused j cat d [] (doRemove v i cat d x))
+      removeIn-is v cat i d
+      ∙ ap₂ (λ j x. unlessRefused j cat d [] (doRemove v i cat d x))
       (past-catalogue (λ m. condition 4 (wrongDisk m d) ∷ fileChecks i m)) rd
 
   pub read-on-read : (i p : ℕ) (o d : List ℕ)
       → readIn v i p o cat d
       ≡ unlessRefused (firstRefusal (condition 4 (wrongDisk l d) ∷ readChecks i p o l)) cat d o
       (readFound p o cat d (findFile i (l .files)))
-  unfolding readIn
   read-on-read i p o d =
-      ap₂ (λ j x. unlessRefused j cat d o (doRead i p o cat d x))
+      readIn-is v cat i p o d
+      ∙ ap₂ (λ j x. unlessRefused j cat d o (doRead i p o cat d x))
       (past-catalogue (λ m. condition 4 (wrongDisk m d) ∷ readChecks i p o m)) rd
 
   pub check-on-read : (d : List ℕ)
       → checkIn v cat d ≡ replyUnless (firstRefusal (condition 4 (wrongDisk l d) ∷ [])) (answered (l .blocks))
-  unfolding checkIn
   check-on-read d =
-      ap₂ (λ j x. replyUnless j (doCheck x)) (past-catalogue (λ m. condition 4 (wrongDisk m d) ∷ [])) rd
+      checkIn-is v cat d
+      ∙ ap₂ (λ j x. replyUnless j (doCheck x)) (past-catalogue (λ m. condition 4 (wrongDisk m d) ∷ [])) rd
 
 -- ---- a catalogue that is refused, whatever the conditions past it
 
@@ -98,32 +99,31 @@ module _ (v : Version) (cat : List ℕ) (n : ℕ)
     (shut : (k : Layout → List Condition)
     → firstRefusal (condition 1 (wrongCatalogue v cat) ∷ onLayout (readCatalogue v cat) k) ≡ refusal n) where
   pub add-refused : (i : ℕ) (bs d : List ℕ) → addIn v i bs cat d ≡ outcome (refused n) cat d []
-  unfolding addIn
   add-refused i bs d =
-      ap (λ j. unlessRefused j cat d [] (doAdd v i bs cat d (readCatalogue v cat)))
+      addIn-is v cat i bs d
+      ∙ ap (λ j. unlessRefused j cat d [] (doAdd v i bs cat d (readCatalogue v cat)))
       (shut (λ m. condition 4 (wrongDisk m d) ∷ addChecks i bs m))
 
   pub remove-refused : (i : ℕ) (d : List ℕ) → removeIn v i cat d ≡ outcome (refused n) cat d []
-  unfolding removeIn
   remove-refused i d =
-      ap (λ j. unlessRefused j cat d [] (doRemove v i cat d (readCatalogue v cat)))
+      removeIn-is v cat i d
+      ∙ ap (λ j. unlessRefused j cat d [] (doRemove v i cat d (readCatalogue v cat)))
       (shut (λ m. condition 4 (wrongDisk m d) ∷ fileChecks i m))
 
   pub read-refused : (i p : ℕ) (o d : List ℕ) → readIn v i p o cat d ≡ outcome (refused n) cat d o
-  unfolding readIn
   read-refused i p o d =
-      ap (λ j. unlessRefused j cat d o (doRead i p o cat d (readCatalogue v cat)))
+      readIn-is v cat i p o d
+      ∙ ap (λ j. unlessRefused j cat d o (doRead i p o cat d (readCatalogue v cat)))
       (shut (λ m. condition 4 (wrongDisk m d) ∷ readChecks i p o m))
 
   pub breaks-refused : (i : ℕ) → breaksIn v i cat ≡ refused n
-  unfolding breaksIn
-  breaks-refused i = ap (λ j. replyUnless j (doBreaks i (readCatalogue v cat))) (shut (fileChecks i))
+  breaks-refused i =
+      breaksIn-is v cat i ∙ ap (λ j. replyUnless j (doBreaks i (readCatalogue v cat))) (shut (fileChecks i))
 
   pub free-refused : freeIn v cat ≡ refused n
-  unfolding freeIn
-  free-refused = ap (λ j. replyUnless j (doFree (readCatalogue v cat))) (shut (λ l. []))
+  free-refused = freeIn-is v cat ∙ ap (λ j. replyUnless j (doFree (readCatalogue v cat))) (shut (λ l. []))
 
   pub check-refused : (d : List ℕ) → checkIn v cat d ≡ refused n
-  unfolding checkIn
   check-refused d =
-      ap (λ j. replyUnless j (doCheck (readCatalogue v cat))) (shut (λ m. condition 4 (wrongDisk m d) ∷ []))
+      checkIn-is v cat d
+      ∙ ap (λ j. replyUnless j (doCheck (readCatalogue v cat))) (shut (λ m. condition 4 (wrongDisk m d) ∷ []))

@@ -1,6 +1,6 @@
 -- A call that is refused changes no buffer: catalogue, disk and output are as they were. Assumes nothing.
 use mathlib.Core.List.{List, []}
-use mathlib.Core.Path.{_≡_, refl}
+use mathlib.Core.Path.{_≡_, refl, subst, sym}
 use Prim.Native.Nat.{ℕ}
 use native.Mathlib.Omega.{arith}
 use lib.ListN.{length}
@@ -11,15 +11,16 @@ use Rattle.catalogue.specs.declared.Version.{Version}
 use Rattle.layout.specs.Adding.{Allocated, allocate, allocated, tooFew}
 use Rattle.layout.specs.Layout.{Found, findFile, found, freshLayout, missing}
 use Rattle.layout.specs.Removing.{copiesOf, removal}
+use Rattle.manager.proofs.CallEquations.{addIn-is, formatIn-is, readIn-is, removeIn-is}
 use Rattle.manager.specs.Call.{Call, add, breaks, check, free, outputOf, read, remove}
 use Rattle.manager.specs.Changes.{Unchanged}
 use Rattle.manager.specs.Conditions.{Judgement, Outcome, Reply, addConditions, allowed, answered}
 use Rattle.manager.specs.Conditions.{firstRefusal, formatConditions, outcome, readConditions, refusal}
 use Rattle.manager.specs.Conditions.{refused, removeConditions, unlessRefused}
 use Rattle.manager.specs.Disk.{pageCount}
-use Rattle.manager.specs.Outcomes.{addIn, addPieces, breaksReply, checkReply, doAdd, doRead, doRemove}
-use Rattle.manager.specs.Outcomes.{formatIn, formatOutcome, freeReply, perform, readFound, readIn}
-use Rattle.manager.specs.Outcomes.{removeFound, removeIn}
+use Rattle.manager.specs.Outcomes.{addPieces, breaksReply, checkReply, doAdd, doRead, doRemove}
+use Rattle.manager.specs.Outcomes.{formatOutcome, freeReply, perform, readFound}
+use Rattle.manager.specs.Outcomes.{removeFound}
 use Rattle.section.specs.Limits.{heightCount}
 
 -- a refusal leaves the buffers
@@ -68,19 +69,21 @@ module _ (cat d : List ℕ) where
 pub refused-changes-nothing : (c : Call) (cat d : List ℕ) (n : ℕ)
     → perform c cat d .reply ≡ refused n
     → Unchanged cat d (outputOf c) (perform c cat d)
-unfolding addIn removeIn readIn
 refused-changes-nothing (add i bs) cat d =
-    unless-unchanged cat d [] (firstRefusal (addConditions (versionOf cat) i bs cat d))
+    subst (RefusedUnchanged cat d []) (sym (addIn-is (versionOf cat) cat i bs d))
+    (unless-unchanged cat d [] (firstRefusal (addConditions (versionOf cat) i bs cat d))
     (doAdd (versionOf cat) i bs cat d (readCatalogue (versionOf cat) cat))
-    (add-unchanged cat d (versionOf cat) i bs (readCatalogue (versionOf cat) cat))
+    (add-unchanged cat d (versionOf cat) i bs (readCatalogue (versionOf cat) cat)))
 refused-changes-nothing (remove i) cat d =
-    unless-unchanged cat d [] (firstRefusal (removeConditions (versionOf cat) i cat d))
+    subst (RefusedUnchanged cat d []) (sym (removeIn-is (versionOf cat) cat i d))
+    (unless-unchanged cat d [] (firstRefusal (removeConditions (versionOf cat) i cat d))
     (doRemove (versionOf cat) i cat d (readCatalogue (versionOf cat) cat))
-    (remove-unchanged cat d (versionOf cat) i (readCatalogue (versionOf cat) cat))
+    (remove-unchanged cat d (versionOf cat) i (readCatalogue (versionOf cat) cat)))
 refused-changes-nothing (read i p o) cat d =
-    unless-unchanged cat d o (firstRefusal (readConditions (versionOf cat) i p o cat d))
+    subst (RefusedUnchanged cat d o) (sym (readIn-is (versionOf cat) cat i p o d))
+    (unless-unchanged cat d o (firstRefusal (readConditions (versionOf cat) i p o cat d))
     (doRead i p o cat d (readCatalogue (versionOf cat) cat))
-    (read-unchanged cat d i p o (readCatalogue (versionOf cat) cat))
+    (read-unchanged cat d i p o (readCatalogue (versionOf cat) cat)))
 refused-changes-nothing (breaks i) cat d = λ n e. same-buffers cat d (breaksReply i cat) []
 refused-changes-nothing free cat d = λ n e. same-buffers cat d (freeReply cat) []
 refused-changes-nothing check cat d = λ n e. same-buffers cat d (checkReply cat d) []
@@ -89,8 +92,8 @@ refused-changes-nothing check cat d = λ n e. same-buffers cat d (checkReply cat
 pub format-refused-changes-nothing : (cat d : List ℕ) (n : ℕ)
     → formatOutcome cat d .reply ≡ refused n
     → Unchanged cat d [] (formatOutcome cat d)
-unfolding formatIn
 format-refused-changes-nothing cat d =
-    unless-unchanged cat d [] (firstRefusal (formatConditions (versionOf cat) cat d))
+    subst (RefusedUnchanged cat d []) (sym (formatIn-is (versionOf cat) cat d))
+    (unless-unchanged cat d [] (firstRefusal (formatConditions (versionOf cat) cat d))
     (outcome (answered (pageCount d)) (encode (versionOf cat) (freshLayout heightCount (pageCount d))) d [])
-    (λ n e. absurd (answered-not-refused (pageCount d) n e))
+    (λ n e. absurd (answered-not-refused (pageCount d) n e)))

@@ -1,17 +1,18 @@
 -- What a call leaves of the buffers that it never writes, whatever it is called with: a read leaves catalogue and
 -- disk, format the disk, and format, add and remove have no output. Assumes nothing.
 use mathlib.Core.List.{List, []}
-use mathlib.Core.Path.{_≡_, refl}
+use mathlib.Core.Path.{_≡_, refl, subst, sym}
 use Prim.Native.Nat.{ℕ}
 use Rattle.catalogue.specs.Reading.{Reading, readCatalogue, sound, unsound}
 use Rattle.catalogue.specs.Version.{versionOf}
 use Rattle.layout.specs.Adding.{Allocated, allocate, allocated, tooFew}
 use Rattle.layout.specs.Layout.{Found, findFile, found, missing}
+use Rattle.manager.proofs.CallEquations.{addIn-is, formatIn-is, readIn-is, removeIn-is}
 use Rattle.manager.specs.Conditions.{Judgement, Outcome, addConditions, allowed, firstRefusal, formatConditions}
 use Rattle.manager.specs.Conditions.{readConditions, refusal, removeConditions, unlessRefused}
 use Rattle.manager.specs.Disk.{pageCount}
-use Rattle.manager.specs.Outcomes.{addIn, addOutcome, addPieces, doAdd, doRead, doRemove, formatIn}
-use Rattle.manager.specs.Outcomes.{formatOutcome, readFound, readIn, readOutcome, removeFound, removeIn}
+use Rattle.manager.specs.Outcomes.{addOutcome, addPieces, doAdd, doRead, doRemove}
+use Rattle.manager.specs.Outcomes.{formatOutcome, readFound, readOutcome, removeFound}
 use Rattle.manager.specs.Outcomes.{removeOutcome}
 use Rattle.section.specs.Limits.{heightCount}
 
@@ -29,10 +30,10 @@ Silent x = x .output ≡ []
 
 pub read-keeps : (i p : ℕ) (o cat d : List ℕ)
     → (readOutcome i p o cat d .catalogue ≡ cat) × (readOutcome i p o cat d .disk ≡ d)
-unfolding readIn
 read-keeps i p o cat d =
-    unless-all (Keeps cat d) (firstRefusal (readConditions (versionOf cat) i p o cat d)) cat d o _ (λ n. (refl, refl))
-    (reading (readCatalogue (versionOf cat) cat))
+    subst (Keeps cat d) (sym (readIn-is (versionOf cat) cat i p o d))
+    (unless-all (Keeps cat d) (firstRefusal (readConditions (versionOf cat) i p o cat d)) cat d o _ (λ n. (refl, refl))
+    (reading (readCatalogue (versionOf cat) cat)))
   where
     file : (x : Found) → Keeps cat d (readFound p o cat d x)
     file (found f) = (refl, refl)
@@ -43,20 +44,20 @@ read-keeps i p o cat d =
     reading unsound = (refl, refl)
 
 pub format-keeps-disk : (cat d : List ℕ) → formatOutcome cat d .disk ≡ d
-unfolding formatIn
 format-keeps-disk cat d =
-    unless-all (λ x. x .disk ≡ d) (firstRefusal (formatConditions (versionOf cat) cat d)) cat d [] _ (λ n. refl) refl
+    subst (λ x. x .disk ≡ d) (sym (formatIn-is (versionOf cat) cat d))
+    (unless-all (λ x. x .disk ≡ d) (firstRefusal (formatConditions (versionOf cat) cat d)) cat d [] _ (λ n. refl) refl)
 
 pub format-no-output : (cat d : List ℕ) → formatOutcome cat d .output ≡ []
-unfolding formatIn
 format-no-output cat d =
-    unless-all Silent (firstRefusal (formatConditions (versionOf cat) cat d)) cat d [] _ (λ n. refl) refl
+    subst Silent (sym (formatIn-is (versionOf cat) cat d))
+    (unless-all Silent (firstRefusal (formatConditions (versionOf cat) cat d)) cat d [] _ (λ n. refl) refl)
 
 pub add-no-output : (i : ℕ) (bs cat d : List ℕ) → addOutcome i bs cat d .output ≡ []
-unfolding addIn
 add-no-output i bs cat d =
-    unless-all Silent (firstRefusal (addConditions (versionOf cat) i bs cat d)) cat d [] _ (λ n. refl)
-    (reading (readCatalogue (versionOf cat) cat))
+    subst Silent (sym (addIn-is (versionOf cat) cat i bs d))
+    (unless-all Silent (firstRefusal (addConditions (versionOf cat) i bs cat d)) cat d [] _ (λ n. refl)
+    (reading (readCatalogue (versionOf cat) cat)))
   where
     reading : (x : Reading) → Silent (doAdd (versionOf cat) i bs cat d x)
     reading (sound l) = pieces (allocate 0 heightCount (pageCount bs) (l .free))
@@ -67,10 +68,10 @@ add-no-output i bs cat d =
     reading unsound = refl
 
 pub remove-no-output : (i : ℕ) (cat d : List ℕ) → removeOutcome i cat d .output ≡ []
-unfolding removeIn
 remove-no-output i cat d =
-    unless-all Silent (firstRefusal (removeConditions (versionOf cat) i cat d)) cat d [] _ (λ n. refl)
-    (reading (readCatalogue (versionOf cat) cat))
+    subst Silent (sym (removeIn-is (versionOf cat) cat i d))
+    (unless-all Silent (firstRefusal (removeConditions (versionOf cat) i cat d)) cat d [] _ (λ n. refl)
+    (reading (readCatalogue (versionOf cat) cat)))
   where
     reading : (x : Reading) → Silent (doRemove (versionOf cat) i cat d x)
     reading (sound l) = file (findFile i (l .files))

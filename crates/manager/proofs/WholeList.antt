@@ -23,6 +23,7 @@ use Rattle.layout.specs.Moves.{same}
 use Rattle.layout.specs.Removing.{copiesOf, removal}
 use Rattle.layout.specs.Sums.{SoundSums}
 use Rattle.manager.proofs.Agreement.{call-agrees}
+use Rattle.manager.proofs.CallEquations.{formatIn-is}
 use Rattle.manager.proofs.Contents.{length-paged}
 use Rattle.manager.proofs.Judging.{none-applies}
 use Rattle.manager.proofs.OnSound.{remove-on-catalogue}
@@ -78,13 +79,13 @@ module _ (v : Version) (c : ℕ) (cat d : List ℕ) (h : RightLengths v c cat d)
 
   -- format on buffers of the right lengths
   pub format-is : formatOutcome cat d ≡ outcome (answered c) (encode v (freshLayout heightCount c)) d []
-  unfolding formatIn
   format-is =
       ap (λ u. formatIn u cat d) pick
+      ∙ (formatIn-is v cat d
       ∙ (ap (λ j. unlessRefused j cat d []
       (outcome (answered (pageCount d)) (encode v (freshLayout heightCount (pageCount d))) d [])) no-condition
       ∙ ap (λ n. outcome (answered n) (encode v (freshLayout heightCount n)) d [])
-      (length-paged d c (h .some) (h .disk) .1))
+      (length-paged d c (h .some) (h .disk) .1)))
 
   -- and what stands then
   pub format-stands : Standing v (encode v (freshLayout heightCount c)) d (freshBook c)

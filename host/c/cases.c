@@ -1,6 +1,7 @@
 /*
- * Cases 4 to 8 of the scope document, a removal that finds free buddies, and every refusal, with either catalogue, by
- * the C header alone. Ends with status 1 and says where, if a call gives back another number or other bytes.
+ * Cases 4 to 8 of the scope document, a removal that finds free buddies, replacements, and every refusal, with either
+ * catalogue, by the C header alone. Ends with status 1 and says where, if a call gives back another number or other
+ * bytes.
  */
 #include <string.h>
 
@@ -75,6 +76,7 @@ static void with_catalogue(size_t length, uint8_t version)
   case_6();
   case_7();
   refusals();
+  replacements();
   expect("byte after the catalogue", cat[length], 255);
 }
 

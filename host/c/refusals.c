@@ -1,17 +1,16 @@
 /*
- * Every refusal by its number, of every call that gives it, and that a refused call changes no byte.
+ * Every refusal by its number, of every call that gives it, and that a refused call changes no byte. Those that replace
+ * alone gives, and its order, are in replacing.c.
  */
 #include <stdio.h>
 #include <string.h>
 
 #include "calls.h"
 
-enum { MANY = EVDISK_MOST_FILES + 2 };
-
 /* The bytes before refused calls. */
 static uint8_t cat_before[sizeof cat], disk_before[sizeof disk], out_before[sizeof out];
 
-static void keep(void)
+void keep(void)
 {
   memset(out, 238, sizeof out);
   memcpy(cat_before, cat, sizeof cat);
@@ -19,8 +18,7 @@ static void keep(void)
   memcpy(out_before, out, sizeof out);
 }
 
-/* A refusal: the number, and every byte as it was kept. */
-static void refuse(const char *what, int64_t got, int64_t want)
+void refuse(const char *what, int64_t got, int64_t want)
 {
   expect(what, got, want);
   if (memcmp(cat, cat_before, sizeof cat) || memcmp(disk, disk_before, sizeof disk)
@@ -35,6 +33,7 @@ static void refuse_with_disk(const char *what, int64_t want)
 {
   refuse(what, add(7, 1), want);
   refuse(what, removed(9), want);
+  refuse(what, replaced(9, 'M', 1), want);
   refuse(what, read_pages(9, 0, 1), want);
   refuse(what, check(), want);
 }
@@ -120,8 +119,9 @@ static void names(void)
   const int64_t named[] = {
     EVDISK_REFUSED_CATALOGUE_LENGTH, EVDISK_REFUSED_NO_DISK, EVDISK_REFUSED_NOT_SOUND, EVDISK_REFUSED_DISK_LENGTH,
     EVDISK_REFUSED_ID_ZERO, EVDISK_REFUSED_ID_MISSING, EVDISK_REFUSED_ID_THERE, EVDISK_REFUSED_BUFFER_LENGTH,
-    EVDISK_REFUSED_PAST_END, EVDISK_REFUSED_FILES_FULL, EVDISK_REFUSED_NO_SPACE};
-  for (int i = 0; i < 11; i++)
+    EVDISK_REFUSED_PAST_END, EVDISK_REFUSED_FILES_FULL, EVDISK_REFUSED_NO_SPACE, EVDISK_REFUSED_LETTER_UNKNOWN,
+    EVDISK_REFUSED_LETTER_NOT_ABOVE};
+  for (int i = 0; i < 13; i++)
     expect("name of a refusal", named[i], -1 - i);
 }
 

@@ -1,10 +1,12 @@
 -- The pieces of a file one after another: the one at hand, those left, and the blocks of both. Assumes nothing.
+use Rattle.piece.proofs.Seen.{seen-length}
 use Rattle.piece.specs.Packed.{seen}
-use mathlib.Core.List.{List, _++_}
+use mathlib.Core.List.{List, [], _++_, _∷_}
 use mathlib.Core.Path.{_∙_, _≡_, ap, refl, sym}
 use Prim.Native.Nat.{_*_, _+_, _-_, _<_, _^_, _≤_, suc, zero, ℕ}
 use native.Mathlib.Omega.{arith}
 use lib.ListN.{List·getD-append, drop, getD, length, length-take, take}
+use lib.Seq.{length-take-le}
 use Rattle.blocks.proofs.DiskStoring.{getD-append-past}
 use Rattle.blocks.specs.DiskCode.{EntryFits, HasBlock, HasRun, PieceFits}
 use Rattle.layout.proofs.Lists.{each-append, each-imp}
@@ -38,6 +40,21 @@ entry-wider d c e l m f = record {
   where
     wider : (s : Section) → blockSize * endOf s ≤ d → blockSize * endOf s ≤ c
     wider s p = omega arith
+
+-- the pieces of a file, in an array that has a place for each
+module _ (e : Entry) (most : e .pieces .count ≤ piecePlaces) (places : length (e .pieces .items) ≡ piecePlaces) where
+  pub pieces-count : length (piecesIn e) ≡ e .pieces .count
+  unfolding listOf
+  pieces-count =
+      length-take-le (e .pieces .count) (seen (e .pieces .items)) (omega (arith, seen-length (e .pieces .items)))
+
+  -- a file that has a block has a piece
+  pub some-piece : 1 ≤ blockCount (piecesIn e) → 1 ≤ e .pieces .count
+  some-piece some = omega (arith, nonempty (piecesIn e) some, pieces-count)
+    where
+      nonempty : (m : List Section) → 1 ≤ blockCount m → 1 ≤ length m
+      nonempty [] z = absurd (omega arith)
+      nonempty (s ∷ m) z = omega arith
 
 -- no more blocks than every piece could have
 pub count-most : (d : ℕ) {l : List Section} → d ≤ blockSize * greatestDisk → Each (PieceFits d) l

@@ -6,3 +6,4 @@ pub mod DiskWriting
 pub mod DiskReading
 pub mod RunSteps
 pub mod DiskFits
+pub mod DiskLetter

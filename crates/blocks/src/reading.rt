@@ -1,16 +1,18 @@
-// Reading: the pages of a file in page order. Pages in a row mostly lie in blocks in a row, so a page is looked for only
-// where a run of blocks ends.
+// Reading: the pages of a file in page order, and the quality letter of the first one. Pages in a row mostly lie in
+// blocks in a row, so a page is looked for only where a run of blocks ends.
 ghost use mathlib.Core.Path.{_≡_};
-ghost use Prim.Native.Nat.{_*_};
+ghost use Prim.Native.Nat.{_*_, _≤_};
 ghost use lib.ListN.{length, take, drop};
 ghost use Rattle.section.specs.Limits.{blockSize, greatestDisk};
-ghost use Rattle.layout.specs.Layout.{blocksOf};
+ghost use Rattle.layout.specs.Layout.{blockCount, blocksOf};
 ghost use Rattle.table.specs.Tables.{piecesIn};
+ghost use Rattle.quality.specs.Letters.{firstLetter};
 ghost use Rattle.manager.specs.Disk.{pagesOn, pageCount, joinPages};
 ghost use Rattle.blocks.specs.DiskCode.{EntryFits, ReadFits};
 ghost use Rattle.blocks.specs.Runs.{Follows, RunAt};
 use crate::Run;
 use crate::disk::store_block;
+use quality::Letter;
 use section::Section;
 use table::Entry;
 
@@ -73,4 +75,18 @@ pub fn read_pages(disk: &[u8], e: Entry, first: usize, out: &mut [u8])
         store_block(out, i, disk, b as usize);
         i += 1;
     }
+}
+
+// The quality letter of a file's first page, which lies in the first block of its first piece.
+pub fn first_letter(disk: &[u8], e: Entry) -> Letter
+    requires { ⌜ EntryFits (length (now disk)) e ⌝ }
+    requires { ⌜ 1 ≤ blockCount (piecesIn e) ⌝ }
+    ensures { λ r. ⌜ r .byte ≡ firstLetter (pagesOn (now (disk .entry)) (piecesIn e)) ⌝ }
+{
+    let list = e.pieces;
+    let items = list.items;
+    let piece = items[0];
+    let start = Section::BLOCK_SIZE * (piece.first() as usize);
+    let byte = disk[start + Letter::PLACE];
+    Letter { byte }
 }

@@ -1,15 +1,15 @@
 -- Adding in code: a law for each refusal, in the order of the conditions, and one for the answer. Assumes nothing.
-use mathlib.Core.Bool.{_||_, false, not, true}
+use mathlib.Core.Bool.{false, not, true}
 use mathlib.Core.List.{List, []}
 use mathlib.Core.Path.{_∙_, _≡_, ap, ap₂, refl, sym}
 use Prim.Native.Nat.{_%_, _*_, _<_, _≤_, ℕ}
 use native.Mathlib.Omega.{arith}
-use lib.Dec.{eqb}
 use lib.ListN.{length}
 use borrow.Author.Tests.{eq-eqb, le-leb, le-ltb, lt-leb, lt-ltb, ne-eqb}
 use Rattle.calls.proofs.AddChecks.{act, checks, judge-10, judge-11, judge-4, judge-5, judge-7, judge-8}
 use Rattle.calls.proofs.AddChecks.{judge-none}
 use Rattle.calls.proofs.Refusing.{refused-makes}
+use Rattle.looking.proofs.LookChecks.{empty-unpaged, part-unpaged, whole-paged}
 use Rattle.looking.specs.Opened.{IsFree}
 use Rattle.calls.specs.Adding.{CanAdd, Places}
 use Rattle.looking.specs.Answers.{replyOf}
@@ -20,15 +20,14 @@ use Rattle.calls.specs.Changing.{Makes, addOn}
 use Rattle.looking.specs.declared.Answer.{Answer}
 use Rattle.catalogue.specs.Encoding.{encode}
 use Rattle.catalogue.specs.declared.Version.{Version}
-use Rattle.layout.specs.Adding.{allocate, allocated}
 use Rattle.layout.specs.Layout.{Layout, freeBlocks, hasFile, isFound}
 use Rattle.layout.specs.Moves.{right}
 use Rattle.layout.specs.Sound.{greatestId}
-use Rattle.manager.specs.Conditions.{Outcome, answered, firstRefusal, refusal, refused, unlessRefused, unpaged}
+use Rattle.manager.specs.Conditions.{Outcome, answered, firstRefusal, outcome, refusal, refused, unlessRefused}
 use Rattle.manager.specs.Conditions.{wrongDisk}
 use Rattle.manager.specs.Disk.{pageCount}
 use Rattle.manager.specs.Outcomes.{addPieces}
-use Rattle.section.specs.Limits.{blockSize, mostFiles, heightCount}
+use Rattle.section.specs.Limits.{blockSize, mostFiles}
 use Rattle.table.proofs.Released.{find-at, find-none}
 use Rattle.table.specs.Files.{hasId}
 use Rattle.piece_lists.specs.Places.{IsPlace, firstPlace}
@@ -40,10 +39,6 @@ use Rattle.table.specs.declared.Table.{Table}
 place-fresh : (t : Table) → Opened t → (i r : ℕ) → IsPlace (t .count) (firstPlace (hasId i) (filesOf t)) r
     → t .count ≤ r → hasFile i (filesOf t) ≡ false
 place-fresh t o i r p le = ap isFound (find-none t i r (omega (arith, o .array, o .sized .files)) (p .place) le)
-
-whole-paged : (bs : List ℕ) → (length bs ≡ 0 → ⊥) → length bs % blockSize ≡ 0 → unpaged bs ≡ false
-whole-paged bs n e =
-    ap₂ (λ s u. s || not u) (ne-eqb (length bs) 0 n) (eq-eqb (length bs % blockSize) 0 e)
 
 -- ---- the refusals
 
@@ -88,15 +83,13 @@ module _ (t : Table) (o : Opened t) (i : ℕ) (bs d : List ℕ) where
         pub refuse-empty : length bs ≡ 0 → Refuses Answer·.BufferLength
         refuse-empty z =
             refuse 8 Answer·.BufferLength refl
-            (judge-8 (layoutOf t) i bs d right-disk (ne-eqb i 0 some) fresh
-            (ap (λ s. s || not (eqb (length bs % blockSize) 0)) (eq-eqb (length bs) 0 z)))
+            (judge-8 (layoutOf t) i bs d right-disk (ne-eqb i 0 some) fresh (empty-unpaged bs z))
 
         module _ (full : length bs ≡ 0 → ⊥) where
           pub refuse-part : (length bs % blockSize ≡ 0 → ⊥) → Refuses Answer·.BufferLength
           refuse-part n =
               refuse 8 Answer·.BufferLength refl
-              (judge-8 (layoutOf t) i bs d right-disk (ne-eqb i 0 some) fresh
-              (ap₂ (λ s u. s || not u) (ne-eqb (length bs) 0 full) (ne-eqb (length bs % blockSize) 0 n)))
+              (judge-8 (layoutOf t) i bs d right-disk (ne-eqb i 0 some) fresh (part-unpaged bs full n))
 
           module _ (whole : length bs % blockSize ≡ 0) where
             pub refuse-files : mostFiles ≤ t .count → Refuses Answer·.FilesFull
@@ -142,15 +135,19 @@ allowed-is t i n bs d c v cat =
     (lt-leb mostFiles (length (filesOf t)) (omega (arith, c .opened .files, c .few)))
     (le-ltb (freeBlocks (layoutOf t)) (pageCount bs) (c .fits)))
 
-allocation-is : (t : Table) (i : ℕ) (bs d d′ : List ℕ) (r : Table) (p : Places t i bs d d′ r)
-    → allocate 0 heightCount (pageCount bs) (layoutOf t .free) ≡ allocated (p .pieces) (p .rest)
+-- what the add does on the table t is what was done
+pub placed-is : (t : Table) (i : ℕ) (bs d d′ : List ℕ) (r : Table) → Places t i bs d d′ r
+    → (v : Version) (cat : List ℕ)
+    → act v (layoutOf t) i bs cat d ≡ outcome (answered (pageCount bs)) (encode v (layoutOf r)) d′ []
 unfolding layoutOf
-allocation-is t i bs d d′ r p = p .allocation
+placed-is t i bs d d′ r p v cat =
+    ap (addPieces v i bs cat d (layoutOf t)) (p .allocation)
+    ∙ ap₂ (λ l z. outcome (answered (pageCount bs)) (encode v l) z []) (sym (p .layout)) (sym (p .disk))
 
-kept-blocks : (t : Table) (i : ℕ) (bs d d′ : List ℕ) (r : Table) → Places t i bs d d′ r
+pub placed-blocks : (t : Table) (i : ℕ) (bs d d′ : List ℕ) (r : Table) → Places t i bs d d′ r
     → layoutOf r .blocks ≡ t .blocks
 unfolding layoutOf
-kept-blocks t i bs d d′ r p = ap (λ (l : Layout). l .blocks) (p .layout)
+placed-blocks t i bs d d′ r p = ap (λ (l : Layout). l .blocks) (p .layout)
 
 pub answer-add : (t : Table) (i n : ℕ) (bs d d′ : List ℕ) (r : Table) → CanAdd t i n (length d) bs
     → Places t i bs d d′ r
@@ -158,16 +155,14 @@ pub answer-add : (t : Table) (i n : ℕ) (bs d d′ : List ℕ) (r : Table) → 
     (record { answer = Answer·.Number n; changed = true; table = r })
 answer-add t i n bs d d′ r c p = record {
   answer = λ v cat. ap answered (c .pages) ∙ sym (ap (λ (o : Outcome). o .reply) (done-is v cat));
-  disk = λ v cat. p .disk ∙ sym (ap (λ (o : Outcome). o .disk) (done-is v cat));
+  disk = λ v cat. sym (ap (λ (o : Outcome). o .disk) (done-is v cat));
   kept = λ z. absurd (let y : _≡_ {A = ℕ} 0 1 = cc in omega arith);
-  stored = λ _ v cat. ap (encode v) (p .layout) ∙ sym (ap (λ (o : Outcome). o .catalogue) (done-is v cat));
+  stored = λ _ v cat. sym (ap (λ (o : Outcome). o .catalogue) (done-is v cat));
   rules = λ _. p .rules;
-  blocks = λ _. kept-blocks t i bs d d′ r p;
+  blocks = λ _. placed-blocks t i bs d d′ r p;
   sized = p .sized;
 }
   where
     done-is : (v : Version) (cat : List ℕ) → addOn v (layoutOf t) i bs cat d
-        ≡ addPieces v i bs cat d (layoutOf t) (allocated (p .pieces) (p .rest))
-    done-is v cat =
-        allowed-is t i n bs d c v cat
-        ∙ ap (addPieces v i bs cat d (layoutOf t)) (allocation-is t i bs d d′ r p)
+        ≡ outcome (answered (pageCount bs)) (encode v (layoutOf r)) d′ []
+    done-is v cat = allowed-is t i n bs d c v cat ∙ placed-is t i bs d d′ r p v cat

@@ -5,4 +5,7 @@ pub mod Removals
 pub mod Placing
 pub mod AddChecks
 pub mod AddJudged
+pub mod ContentLetter
+pub mod ReplaceJudged
+pub mod Exchanged
 pub mod FreshPieces

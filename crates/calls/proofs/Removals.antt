@@ -1,14 +1,13 @@
 -- Removing in code past the catalogue: each refusal by its condition, and what a removal makes. Assumes nothing.
-use mathlib.Core.Bool.{false, not, true}
+use mathlib.Core.Bool.{true}
 use mathlib.Core.List.{List, [], _∷_}
 use mathlib.Core.Path.{_∙_, _≡_, ap, ap₂, refl, sym}
 use Prim.Native.Nat.{_*_, _<_, _≤_, ℕ}
 use native.Mathlib.Omega.{arith}
-use lib.Dec.{eqb}
 use lib.ListN.{length}
-use borrow.Author.Tests.{eq-eqb, ne-eqb}
 use Rattle.calls.proofs.Refusing.{refused-makes}
 use Rattle.calls.specs.Refusing.{refusing}
+use Rattle.looking.proofs.LookChecks.{disk-right, disk-wrong, id-found, id-missing, id-zero}
 use Rattle.looking.specs.declared.Answer.the-variants as Answer·
 use Rattle.looking.specs.Opened.{Opened}
 use Rattle.calls.specs.Changing.{Makes, removeOn}
@@ -19,15 +18,11 @@ use Rattle.catalogue.specs.declared.Version.{Version}
 use Rattle.layout.proofs.Finding.{found-find}
 use Rattle.layout.proofs.Removed.{removal-keeps}
 use Rattle.layout.proofs.Soundness.{sound-sums}
-use Rattle.layout.specs.Removing.{layoutAfter}
-use Rattle.section.specs.Limits.{heightCount}
-use Rattle.layout.specs.Layout.{Layout}
-use Rattle.layout.specs.Layout.{findFile, found, hasFile, isFound}
-use Rattle.layout.specs.Removing.{release}
-use Rattle.manager.proofs.Judging.{passes, refuses-by}
+use Rattle.layout.specs.Layout.{Layout, findFile, found}
+use Rattle.layout.specs.Removing.{layoutAfter, release}
 use Rattle.manager.specs.Conditions.{answered, condition, fileChecks, firstRefusal, unlessRefused, wrongDisk}
 use Rattle.manager.specs.Outcomes.{afterMerges, removeFound}
-use Rattle.section.specs.Limits.{blockSize}
+use Rattle.section.specs.Limits.{blockSize, heightCount}
 use Rattle.table.proofs.Released.{find-at, find-none, first-of-id}
 use Rattle.table.specs.Files.{hasId}
 use Rattle.piece_lists.specs.Places.{firstPlace}
@@ -39,31 +34,21 @@ module _ (t : Table) (op : Opened t) (id : ℕ) (d : List ℕ) where
       → Makes (t .blocks) (λ v cat. removeOn v (layoutOf t) id cat d) d (refusing Answer·.DiskLength t)
   unfolding layoutOf
   remove-wrong-disk ne =
-      refused-makes _ 4
-      (refuses-by (condition 4 (wrongDisk (layoutOf t) d)) (fileChecks id (layoutOf t))
-      (ap not (ne-eqb (length d) (blockSize * t .blocks) ne)))
-      Answer·.DiskLength refl d _ t (op .sized)
+      refused-makes _ 4 (disk-wrong (layoutOf t) d (fileChecks id (layoutOf t)) ne) Answer·.DiskLength refl d _ t
+      (op .sized)
 
   module _ (ld : length d ≡ blockSize * t .blocks) where
-    right : wrongDisk (layoutOf t) d ≡ false
-    unfolding layoutOf
-    right = ap not (eq-eqb (length d) (blockSize * t .blocks) ld)
-
     past-disk : firstRefusal (condition 4 (wrongDisk (layoutOf t) d) ∷ fileChecks id (layoutOf t))
         ≡ firstRefusal (fileChecks id (layoutOf t))
-    past-disk = passes (condition 4 (wrongDisk (layoutOf t) d)) (fileChecks id (layoutOf t)) right
+    unfolding layoutOf
+    past-disk = disk-right (layoutOf t) d (fileChecks id (layoutOf t)) ld
 
     pub remove-id-zero : id ≡ 0 → Makes (t .blocks) (λ v cat. removeOn v (layoutOf t) id cat d) d
         (refusing Answer·.IdZero t)
     remove-id-zero e =
-        refused-makes _ 5 (past-disk ∙ refuses-by (condition 5 (eqb id 0)) _ (eq-eqb id 0 e))
-        Answer·.IdZero refl d _ t (op .sized)
+        refused-makes _ 5 (past-disk ∙ id-zero (layoutOf t) id [] e) Answer·.IdZero refl d _ t (op .sized)
 
     module _ (nz : id ≡ 0 → ⊥) (i : ℕ) (at : i ≡ firstPlace (hasId id) (filesOf t)) where
-      past-id : firstRefusal (condition 4 (wrongDisk (layoutOf t) d) ∷ fileChecks id (layoutOf t))
-          ≡ firstRefusal (condition 6 (not (hasFile id (layoutOf t .files))) ∷ [])
-      past-id = past-disk ∙ passes (condition 5 (eqb id 0)) _ (ne-eqb id 0 nz)
-
       most : t .count ≤ length (t .files)
       most = omega (arith, op .array, op .sized .files)
 
@@ -71,10 +56,7 @@ module _ (t : Table) (op : Opened t) (id : ℕ) (d : List ℕ) where
           → Makes (t .blocks) (λ v cat. removeOn v (layoutOf t) id cat d) d (refusing Answer·.IdMissing t)
       unfolding layoutOf
       remove-missing le =
-          refused-makes _ 6
-          (past-id
-          ∙ refuses-by (condition 6 (not (hasFile id (filesOf t)))) []
-          (ap (λ x. not (isFound x)) (find-none t id i most at le)))
+          refused-makes _ 6 (past-disk ∙ id-missing (layoutOf t) id [] nz (find-none t id i most at le))
           Answer·.IdMissing refl d _ t (op .sized)
 
       module _ (lt : i < t .count) where
@@ -92,12 +74,9 @@ module _ (t : Table) (op : Opened t) (id : ℕ) (d : List ℕ) where
         unfolding firstRefusal
         outcome-is v cat =
             ap₂ (λ j x. unlessRefused j cat d [] (removeFound v cat d (layoutOf t) x))
-            (past-id
-            ∙ passes (condition 6 (not (hasFile id (layoutOf t .files)))) []
-            (ap (λ x. not (isFound x)) there))
-            there
+            (past-disk ∙ id-found (layoutOf t) id [] nz (fileAt t i) there) there
 
-        removed-blocks : layoutAfter (release (fileAt t i) (layoutOf t)) (removalAt t i) .blocks ≡ t .blocks
+        pub removed-blocks : layoutAfter (release (fileAt t i) (layoutOf t)) (removalAt t i) .blocks ≡ t .blocks
         unfolding layoutOf
         removed-blocks =
             let x = found-find id (layoutOf t .files) (fileAt t i) there in
@@ -112,7 +91,7 @@ module _ (t : Table) (op : Opened t) (id : ℕ) (d : List ℕ) where
           disk = λ v cat. e .disk ∙ sym (ap (λ o. o .disk) (outcome-is v cat));
           kept = λ c. absurd (let z : _≡_ {A = ℕ} 0 1 = cc in omega arith);
           stored = λ _ v cat. ap (encode v) (e .layout) ∙ sym (ap (λ o. o .catalogue) (outcome-is v cat));
-          rules = λ _. e .rules;
+          rules = λ _. e .opened .rules;
           blocks = λ _. ap (λ (l : Layout). l .blocks) (e .layout) ∙ removed-blocks;
-          sized = e .sized;
+          sized = e .opened .sized;
         }

@@ -15,7 +15,7 @@ use Rattle.layout.specs.Sound.{Sound}
 use Rattle.layout.specs.Sums.{SoundSums}
 use Rattle.manager.specs.Disk.{runCopies}
 use Rattle.piece_lists.specs.Few.{piecePlaces}
-use Rattle.table.proofs.Released.{find-at}
+use Rattle.table.proofs.Released.{find-at, length-files}
 use Rattle.table.proofs.TableSteps.{few-free, table-released-whole}
 use Rattle.table.specs.Files.{entryAt}
 use Rattle.table.specs.Merges.{Released}
@@ -80,7 +80,11 @@ module _ (t : Table) (i : ℕ) (d : List ℕ) (c : CanTakeOut t i (length d)) wh
         layout = after;
         disk = e .disk ∙ ap (λ ms. runCopies d (copiesOf ms)) merges;
         count = e .count ∙ ap (λ ms. length (copiesOf ms)) merges;
-        rules = sound-after;
-        sized = e .sized;
-        exact = e .exact;
+        opened = record {
+          rules = sound-after;
+          sized = e .sized;
+          array = e .array;
+          files = length-files (s .table) (omega (arith, e .sized .files, e .array));
+          free = e .exact;
+        };
       }

@@ -3,4 +3,5 @@ pub mod Refusing
 pub mod Changing
 pub mod TakingOut
 pub mod Adding
+pub mod Replacing
 pub mod Fresh

@@ -5,14 +5,12 @@ use Prim.Native.Nat.{ℕ, _*_, _<_}
 use lib.ListN.{length}
 use Rattle.section.specs.Limits.{blockSize, heightCount}
 use Rattle.layout.specs.Layout.{File}
-use Rattle.layout.specs.Sound.{Sound}
 use Rattle.layout.specs.Removing.{Merge, copiesOf, layoutAfter, release, removal}
 use Rattle.manager.specs.Disk.{runCopies}
 use Rattle.piece_lists.specs.Places.{firstPlace}
-use Rattle.free_pieces.specs.Free.{freeOf}
 use Rattle.table.specs.declared.Table.{Table}
 use Rattle.table.specs.Files.{entryAt, hasId}
-use Rattle.table.specs.Tables.{Sized, fileOf, filesOf, layoutOf}
+use Rattle.table.specs.Tables.{fileOf, filesOf, layoutOf}
 use Rattle.settling.specs.declared.Settled.{Settled}
 use Rattle.looking.specs.Opened.{Opened}
 
@@ -36,6 +34,4 @@ pub record TakesOut (t : Table) (i : ℕ) (d d′ : List ℕ) (r : Settled) : Ty
   pub layout : layoutOf (r .table) ≡ layoutAfter (release (fileAt t i) (layoutOf t)) (removalAt t i)
   pub disk : d′ ≡ runCopies d (copiesOf (removalAt t i))
   pub count : r .copied ≡ length (copiesOf (removalAt t i))
-  pub rules : Sound heightCount (layoutOf (r .table))
-  pub sized : Sized (r .table)
-  pub exact : length (freeOf (r .table .free)) ≡ r .table .free .count
+  pub opened : Opened (r .table)

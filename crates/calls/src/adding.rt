@@ -16,7 +16,7 @@ use table::Entry;
 use table::Table;
 
 // The file's pieces taken, its pages written, and the table with it.
-fn place_file(disk: &mut [u8], t: Table, id: u32, n: u32, content: &[u8]) -> Table
+pub fn place_file(disk: &mut [u8], t: Table, id: u32, n: u32, content: &[u8]) -> Table
     requires { ⌜ CanAdd t id n (length (now disk)) (now content) ⌝ }
     ensures { λ r. ⌜ Places t id (now (content .entry)) (now (disk .entry)) (now (disk .exit)) r ⌝ }
 {

@@ -5,14 +5,16 @@ ghost use Rattle.calls.specs.Refusing.{refusing};
 mod adding;
 mod fresh;
 mod removing;
+mod replacing;
 
 pub use adding::add_in;
 pub use fresh::fresh_free;
 use looking::Answer;
 pub use removing::remove_in;
+pub use replacing::replace_in;
 use table::Table;
 
-// What an add or a removal makes of a table: the answer, and the table if it is another one now.
+// What an add, a removal or a replacement makes of a table: the answer, and the table if it is another one now.
 pub struct Changed {
     pub answer: Answer,
     pub changed: bool,

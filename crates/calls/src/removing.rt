@@ -13,7 +13,7 @@ use settling::settle;
 use table::Table;
 
 // The file at place `i` taken out: it is released, and its pieces are merged with the free ones to the end.
-fn take_out(disk: &mut [u8], t: Table, i: usize) -> Settled
+pub fn take_out(disk: &mut [u8], t: Table, i: usize) -> Settled
     requires { ⌜ CanTakeOut t i (length (now disk)) ⌝ }
     ensures { λ r. ⌜ TakesOut t i (now (disk .entry)) (now (disk .exit)) r ⌝ }
 {

@@ -1,3 +1,2 @@
--- What the proofs of the crate share.
-mod Choices
-mod ConditionNumbers
+-- What is proved of the crate's definitions.
+pub mod ConditionNumbers

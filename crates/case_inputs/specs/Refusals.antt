@@ -1,43 +1,39 @@
--- Which refusals a call gives, by the manager's conditions, and which two can apply together. Definitions only.
-use mathlib.Core.Bool.{Bool, _&&_, _||_, not}
-use mathlib.Core.List.{List, map}
-use mathlib.Core.Path.{_≡_}
-use Prim.Native.Nat.{ℕ}
-use lib.Dec.{eqb}
-use Rattle.catalogue.specs.Reading.{readCatalogue, sound}
+-- Which refusals a call gives, in the order of its checks; and the manager's conditions of it. Definitions only.
+use mathlib.Core.List.{List, [], _++_, _∷_, map}
+use Prim.Native.Nat.{_-_, ℕ}
+use lib.ListN.{length, replicate}
 use Rattle.catalogue.specs.Version.{versionOf}
-use Rattle.layout.specs.Layout.{Layout}
 use Rattle.manager.specs.Conditions.{Condition, Reply, addConditions, answered, breaksConditions, checkConditions}
 use Rattle.manager.specs.Conditions.{formatConditions, freeConditions, readConditions, refused, removeConditions}
-use Rattle.manager.specs.Table.{isListed}
-use Rattle.case_inputs.specs.declared.refusals.Call.{Call}
-use Rattle.case_inputs.specs.declared.refusals.Call.the-variants as Call·
+use Rattle.manager.specs.Conditions.{replaceConditions}
+use Rattle.case_inputs.specs.declared.Call.{Call}
+use Rattle.case_inputs.specs.declared.Call.the-variants as Call·
+
+-- the numbers of a call's refusals by its checks, and zeros behind them: 9 in all
+abbrev pub checksOf : Call → List ℕ
+checksOf Call·.Format = 1 ∷ 2 ∷ 0 ∷ 0 ∷ 0 ∷ 0 ∷ 0 ∷ 0 ∷ 0 ∷ []
+checksOf Call·.Add = 1 ∷ 3 ∷ 4 ∷ 5 ∷ 7 ∷ 8 ∷ 10 ∷ 11 ∷ 0 ∷ []
+checksOf Call·.Remove = 1 ∷ 3 ∷ 4 ∷ 5 ∷ 6 ∷ 0 ∷ 0 ∷ 0 ∷ 0 ∷ []
+checksOf Call·.Replace = 1 ∷ 3 ∷ 4 ∷ 5 ∷ 6 ∷ 8 ∷ 12 ∷ 13 ∷ 11 ∷ []
+checksOf Call·.Read = 1 ∷ 3 ∷ 4 ∷ 5 ∷ 6 ∷ 8 ∷ 9 ∷ 0 ∷ 0 ∷ []
+checksOf Call·.Breaks = 1 ∷ 3 ∷ 5 ∷ 6 ∷ 0 ∷ 0 ∷ 0 ∷ 0 ∷ 0 ∷ []
+checksOf Call·.Free = 1 ∷ 3 ∷ 0 ∷ 0 ∷ 0 ∷ 0 ∷ 0 ∷ 0 ∷ 0 ∷ []
+checksOf Call·.Check = 1 ∷ 3 ∷ 4 ∷ 0 ∷ 0 ∷ 0 ∷ 0 ∷ 0 ∷ 0 ∷ []
 
 -- the conditions of a call with the id i, the first page p, the content or output b, the catalogue and the disk
 abbrev pub conditionsOf : Call → ℕ → ℕ → List ℕ → List ℕ → List ℕ → List Condition
 conditionsOf Call·.Format i p b cat d = formatConditions (versionOf cat) cat d
 conditionsOf Call·.Add i p b cat d = addConditions (versionOf cat) i b cat d
 conditionsOf Call·.Remove i p b cat d = removeConditions (versionOf cat) i cat d
+conditionsOf Call·.Replace i p b cat d = replaceConditions (versionOf cat) i b cat d
 conditionsOf Call·.Read i p b cat d = readConditions (versionOf cat) i p b cat d
 conditionsOf Call·.Breaks i p b cat d = breaksConditions (versionOf cat) i cat
 conditionsOf Call·.Free i p b cat d = freeConditions (versionOf cat) cat
 conditionsOf Call·.Check i p b cat d = checkConditions (versionOf cat) cat d
 
+-- their numbers in their order, and zeros behind them
 abbrev pub numbersIn : List Condition → List ℕ
-numbersIn = map (λ (c : Condition). c .number)
-
--- r says whether n is a number of the call's conditions, whatever it is called with, on a sound catalogue
-unfoldable pub HasRefusal : Call → ℕ → Bool → Type 0
-HasRefusal call n r =
-    (i p : ℕ) (b cat d : List ℕ) (l : Layout) → readCatalogue (versionOf cat) cat ≡ sound l
-    → r ≡ isListed n (numbersIn (conditionsOf call i p b cat d))
-
--- not 5 and 7, nor 6 and 9
-unfoldable pub canMeet : ℕ → ℕ → Bool
-canMeet x y = not ((eqb x 5 && eqb y 7) || (eqb x 6 && eqb y 9))
-
-unfoldable pub isOneOf : ℕ → ℕ → ℕ → Bool
-isOneOf n x y = eqb n x || eqb n y
+numbersIn cs = map (λ (c : Condition). c .number) cs ++ replicate (9 - length cs) 0
 
 abbrev pub numberIn : Reply → ℕ
 numberIn (answered n) = 0

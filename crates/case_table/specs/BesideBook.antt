@@ -1,12 +1,12 @@
--- A list of calls made by the manager and by the plain book side by side, from a format with the small catalogue and a
--- fresh book: the replies of both, and the whole output of both. Definitions only.
+-- Lists of calls made by the manager and by the plain book side by side, from a format with the small catalogue and a
+-- fresh book: the replies of both, and the whole output of both; and a book of 64 lines. Definitions only.
 use mathlib.Core.List.{List, [], _∷_}
-use Prim.Native.Nat.{ℕ}
+use Prim.Native.Nat.{suc, zero, ℕ}
 use lib.ListN.{replicate}
-use Rattle.case_table.specs.CaseRows.{contentOf, untouched}
+use Rattle.case_table.specs.CaseRows.{contentOf, reviewed, untouched}
 use Rattle.case_table.specs.CaseRun.{performed}
-use Rattle.manager.specs.Book.{Book, BookReply, BookStep, freshBook, inBook}
-use Rattle.manager.specs.Call.{Call, add, breaks, check, free, read, remove}
+use Rattle.manager.specs.Book.{Book, BookReply, BookStep, Line, freshBook, inBook}
+use Rattle.manager.specs.Call.{Call, add, breaks, check, free, read, remove, replace}
 use Rattle.manager.specs.Conditions.{Outcome, Reply}
 use Rattle.manager.specs.Outcomes.{formatOutcome}
 
@@ -50,6 +50,41 @@ tenCalls =
     ∷ check
     ∷ []
 
+-- those with replacements of id 5: the first page gets D, and then Q; f is 10 and its n 2 before that
+abbrev pub replacementCalls : List Call
+replacementCalls =
+    add 5 (contentOf 5 1)
+    ∷ add 9 (contentOf 9 3)
+    ∷ add 2 (contentOf 2 1)
+    ∷ replace 0 []
+    ∷ replace 3 []
+    ∷ replace 5 []
+    ∷ replace 5 (reviewed 68 1)
+    ∷ read 5 0 (untouched 2)
+    ∷ replace 5 (reviewed 90 12)
+    ∷ replace 5 (reviewed 82 12)
+    ∷ replace 5 (reviewed 68 0)
+    ∷ replace 5 (reviewed 81 12)
+    ∷ free
+    ∷ replace 5 (reviewed 81 11)
+    ∷ free
+    ∷ read 5 7 (untouched 2)
+    ∷ read 9 0 (untouched 3)
+    ∷ remove 5
+    ∷ check
+    ∷ []
+
 -- replies of the manager and of the book, and the output of both
 abbrev pub bothReply : Reply → BookReply → List ℕ → Both
 bothReply r s o = record { manager = r; book = s; managersOutput = o; booksOutput = o }
+
+-- ---- a book of 64 lines
+
+-- n lines of one page each, from id i + 1 on; the page of id i + 1 is filled with the byte i
+abbrev pub linesFrom : ℕ → ℕ → List Line
+linesFrom i zero = []
+linesFrom i (suc n) = (record { id = suc i; pages = replicate 512 i ∷ [] }) ∷ linesFrom (suc i) n
+
+-- 66 blocks and these lines
+abbrev pub bookWithLines : List Line → Book
+bookWithLines l = record { blocks = 66; lines = l }

@@ -30,6 +30,10 @@ blocksOfBytes (x ∷ l) = replicate 512 x ++ blocksOfBytes l
 abbrev pub contentOf : ℕ → ℕ → List ℕ
 contentOf i n = filledBlocks (i * 16) n
 
+-- a new content of n + 1 pages: the first is filled with the byte x, its quality letter, the others with 161 and so on
+abbrev pub reviewed : ℕ → ℕ → List ℕ
+reviewed x n = replicate 512 x ++ filledBlocks 161 n
+
 -- n bytes that nobody wrote to yet
 abbrev pub unwritten : ℕ → List ℕ
 unwritten n = replicate n 255

@@ -22,11 +22,12 @@ use Rattle.layout.specs.Removing.{Copy, buddyPair, copiesFrom, copiesOf, copyRu
 use Rattle.layout.specs.Removing.{merge, mergeAll, mergePair, nextMerge, release, removal, withoutFile}
 use Rattle.case_table.specs.CaseRows.{FileSeen, Row, Seen, Start, filledBlocks, freshDisk, givenLayout}
 use Rattle.case_table.specs.CaseRows.{untouched}
-use Rattle.manager.specs.Call.{Call, add, breaks, check, free, read, remove}
-use Rattle.manager.specs.Conditions.{Outcome, firstRefusal}
+use Rattle.manager.specs.Call.{Call, add, breaks, check, free, read, remove, replace}
+use Rattle.manager.specs.Conditions.{Outcome, Reply, answered, firstRefusal, refused}
 use Rattle.manager.specs.Disk.{cutPages, joinPages, pagesOn, runCopies, writePages}
 use Rattle.manager.specs.Outcomes.{addIn, breaksIn, breaksReply, checkIn, formatIn, formatOutcome, freeIn, perform}
-use Rattle.manager.specs.Outcomes.{readIn, removeIn}
+use Rattle.manager.specs.Outcomes.{readIn, removeIn, replaceOutcome}
+use Rattle.quality.specs.Letters.{firstLetter, rankOf}
 use Rattle.section.specs.Limits.{heightCount}
 use Rattle.section.specs.Heights.{heightOf}
 use Rattle.section.specs.Sections.{buddyFirst, isAligned, isInside, isOnDisk, movedInto, parentFirst, sharesBlock}
@@ -53,8 +54,8 @@ bytesOfBlocks bs = map byteOf (firstBlocks ((length bs + 511) / 512) bs)
 
 -- ---- what is shown
 
--- each call, format first; the copies of the last removal; afterwards the layout that is read from the catalogue,
--- its files, and the disk's blocks, one byte for each
+-- each call, format first; the copies of the last removal or replacement, none if it was refused; afterwards the
+-- layout that is read from the catalogue, its files, and the disk's blocks, one byte for each
 pub record Shown : Type 0 where
   pub replies : List Seen
   pub copies : List Copy
@@ -83,7 +84,7 @@ unfolding onesIn ones buddyFirst parentFirst isAligned isOnDisk sharesBlock isIn
     release removal bigEndian pairBytes pairsBytes entryBytes entriesBytes headerBytes usedBytes encode every pairwise
     isSound readFrom readPair readPairs fileRead readEntry readEntries readHeader readLayout judged readCatalogue
     pagesOn cutPages joinPages writePages runCopies firstRefusal formatIn addIn removeIn readIn breaksIn freeIn
-    checkIn versionFor heightOf
+    checkIn replaceOutcome versionFor heightOf firstLetter rankOf
 performed c cat d = perform c cat d
 
 -- the buffers, and what was seen so far
@@ -103,14 +104,20 @@ abbrev pub copiesOnReading : ℕ → Reading → List Copy
 copiesOnReading i (sound l) = copiesOfFound l (findFile i (l .files))
 copiesOnReading i unsound = []
 
--- the copies of the last removal, after one more call
-abbrev pub lastCopies : Call → List ℕ → List Copy → List Copy
-lastCopies (add i bs) cat cs = cs
-lastCopies (remove i) cat cs = copiesOnReading i (readCatalogue (versionOf cat) cat)
-lastCopies (read i p o) cat cs = cs
-lastCopies (breaks i) cat cs = cs
-lastCopies free cat cs = cs
-lastCopies check cat cs = cs
+-- the copies of a removal that gets this reply
+abbrev pub copiesMade : Reply → List Copy → List Copy
+copiesMade (answered n) cs = cs
+copiesMade (refused n) cs = []
+
+-- the copies of the last removal, a replacement's too, after one more call and its reply
+abbrev pub lastCopies : Call → Reply → List ℕ → List Copy → List Copy
+lastCopies (add i bs) r cat cs = cs
+lastCopies (remove i) r cat cs = copiesMade r (copiesOnReading i (readCatalogue (versionOf cat) cat))
+lastCopies (replace i bs) r cat cs = copiesMade r (copiesOnReading i (readCatalogue (versionOf cat) cat))
+lastCopies (read i p o) r cat cs = cs
+lastCopies (breaks i) r cat cs = cs
+lastCopies free r cat cs = cs
+lastCopies check r cat cs = cs
 
 -- the state after a call
 abbrev pub afterCall : Outcome → List Copy → State → State
@@ -126,7 +133,8 @@ afterCall x cs s =
 abbrev pub afterCalls : List Call → State → State
 afterCalls [] s = s
 afterCalls (c ∷ l) s =
-    afterCalls l (afterCall (performed c (s .catalogue) (s .disk)) (lastCopies c (s .catalogue) (s .copies)) s)
+    let x : Outcome = performed c (s .catalogue) (s .disk) in
+    afterCalls l (afterCall x (lastCopies c (x .reply) (s .catalogue) (s .copies)) s)
 
 -- format gets a catalogue buffer and a disk of other bytes; a given layout's block x is filled with the byte x
 abbrev pub startState : Version → Start → State

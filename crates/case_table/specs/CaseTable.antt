@@ -12,7 +12,7 @@ use Rattle.case_table.specs.CaseRows.{unwritten}
 use Rattle.case_table.specs.BuddyRows.{buddyRows}
 use Rattle.case_table.specs.LengthRows.{lengthRows}
 use Rattle.case_table.specs.MergeRows.{mergeRows}
-use Rattle.manager.specs.Call.{add, breaks, check, free, read, remove}
+use Rattle.manager.specs.Call.{add, breaks, check, free, read, remove, replace}
 
 -- all rows
 abbrev pub caseTable : List Row
@@ -176,10 +176,12 @@ caseTable =
       calls =
           upToSeven
           ++ (breaks 9 ∷ free ∷ check ∷ add 0 [] ∷ add 9 [] ∷ add 3 [] ∷ add 3 (replicate 511 48)
-          ∷ add 3 (contentOf 3 14) ∷ breaks 0 ∷ breaks 5 ∷ remove 0 ∷ remove 5 ∷ []);
+          ∷ add 3 (contentOf 3 14) ∷ breaks 0 ∷ breaks 5 ∷ replace 0 [] ∷ replace 5 [] ∷ replace 9 []
+          ∷ replace 9 (contentOf 3 1) ∷ remove 0 ∷ remove 5 ∷ []);
       replies =
           answer 16 ∷ answer 3 ∷ answer 1 ∷ answer 2 ∷ answer 1 ∷ answer 0 ∷ answer 13 ∷ answer 16 ∷ refuse 5
-          ∷ refuse 7 ∷ refuse 8 ∷ refuse 8 ∷ refuse 11 ∷ refuse 5 ∷ refuse 6 ∷ refuse 5 ∷ refuse 6 ∷ [];
+          ∷ refuse 7 ∷ refuse 8 ∷ refuse 8 ∷ refuse 11 ∷ refuse 5 ∷ refuse 6 ∷ refuse 5 ∷ refuse 6 ∷ refuse 8
+          ∷ refuse 12 ∷ refuse 5 ∷ refuse 6 ∷ [];
       copies = [];
       layout = layoutSeven;
       files = fileTwo ∷ fileNineMoved ∷ [];

@@ -1,13 +1,15 @@
 -- Definitions only: the worked cases of document 01 as one table, written out by hand, and how a row is computed;
--- refusals by literal lengths as another; and a list of calls beside the book.
+-- refusals by literal lengths as another, and replacements as a third; and lists of calls beside the book.
 pub mod CaseRows
 pub mod CaseParts
 pub mod CaseBytes
 pub mod MergeRows
 pub mod BuddyRows
 pub mod LengthRows
+pub mod ReplaceRows
 pub mod CaseTable
 pub mod CaseRun
 pub mod BesideBook
 pub mod RefusalRows
 pub mod RefusalTable
+pub mod RankRows

@@ -1,12 +1,13 @@
 -- The refusals of every call by literal lengths, one byte off on both sides, and pairs of refusals that apply
--- together, of which the lowest number is returned, written out by hand. Definitions only.
+-- together, of which the lowest number is returned, or for a replacement the first in its order, written out by hand.
+-- Definitions only.
 use mathlib.Core.List.{List, [], _++_, _∷_, map}
 use Prim.Native.Nat.{_-_, suc, zero, ℕ}
 use lib.ListN.{length, replicate}
 use Rattle.case_table.specs.CaseBytes.{usedInLargeSeven, usedInSeven}
 use Rattle.case_table.specs.CaseRows.{filledBlocks, unwritten}
 use Rattle.case_table.specs.RefusalRows.{Refusal, RefusalRow, formatGives, gives}
-use Rattle.manager.specs.Call.{Call, add, breaks, check, free, read, remove}
+use Rattle.manager.specs.Call.{Call, add, breaks, check, free, read, remove, replace}
 
 -- a catalogue and a disk, and the calls that are refused on them
 abbrev row : List ℕ → List ℕ → List Refusal → RefusalRow
@@ -20,25 +21,30 @@ filledUp n used = used ++ replicate (n - length used) 0
 abbrev oneByteMore : ℕ → List ℕ → List ℕ
 oneByteMore n used = filledUp (n - 1) used ++ 1 ∷ []
 
--- a disk of 16 blocks
+-- a disk of 16 blocks, none with one of the four quality letters; and one that has M in every block
 abbrev sixteen : List ℕ
 sixteen = filledBlocks 0 16
 
+abbrev sixteenWithM : List ℕ
+sixteenWithM = replicate 8192 77
+
 -- ---- the calls
 
--- a call of each kind that is answered after case 7, where id 2 has two pages, id 9 one, and 13 blocks are free
-abbrev plainCalls : List Call
-plainCalls = add 7 (unwritten 512) ∷ remove 2 ∷ read 2 0 (unwritten 512) ∷ breaks 2 ∷ free ∷ check ∷ []
-
--- of those the ones that get the disk
+-- calls that get the disk and are answered after case 7, where id 2 has two pages, id 9 one, and 13 blocks are free; a
+-- new content has 82, 68, 81 or 77 in all bytes, for R, D, Q and M, or the byte of `unwritten`, which is none of them
 abbrev diskCalls : List Call
-diskCalls = add 7 (unwritten 512) ∷ remove 2 ∷ read 2 0 (unwritten 512) ∷ check ∷ []
+diskCalls = add 7 (unwritten 512) ∷ remove 2 ∷ replace 2 (replicate 512 82) ∷ read 2 0 (unwritten 512) ∷ check ∷ []
 
--- calls that get the disk, and that are refused with 5 to 11 on the right buffers
+-- and those that get the catalogue alone: a call of each kind
+abbrev plainCalls : List Call
+plainCalls = breaks 2 ∷ free ∷ diskCalls
+
+-- calls that get the disk, and that are refused with 5 to 12 on the right buffers
 abbrev wrongCalls : List Call
 wrongCalls =
     add 0 [] ∷ add 2 [] ∷ add 3 (unwritten 511) ∷ add 3 (unwritten 7168) ∷ remove 0 ∷ remove 3 ∷ read 0 0 []
-    ∷ read 3 0 [] ∷ read 2 0 (unwritten 513) ∷ read 2 2 (unwritten 512) ∷ []
+    ∷ read 3 0 [] ∷ read 2 0 (unwritten 513) ∷ read 2 2 (unwritten 512) ∷ replace 0 [] ∷ replace 3 []
+    ∷ replace 2 (replicate 513 82) ∷ replace 2 (unwritten 512) ∷ replace 2 (replicate 8192 82) ∷ []
 
 -- all of these give the same number
 abbrev all : ℕ → List Call → List Refusal
@@ -72,12 +78,23 @@ diskRows c lengths = map (λ n. row (filledUp (c .bytes) (c .seven)) (unwritten 
 abbrev argumentRow : Catalogues → RefusalRow
 argumentRow c =
     row (filledUp (c .bytes) (c .seven)) sixteen
-    (all 5 (add 0 (unwritten 512) ∷ remove 0 ∷ read 0 0 (unwritten 512) ∷ breaks 0 ∷ [])
-    ++ all 6 (remove 3 ∷ read 3 0 (unwritten 512) ∷ breaks 3 ∷ [])
+    (all 5 (add 0 (unwritten 512) ∷ remove 0 ∷ replace 0 (replicate 512 82) ∷ read 0 0 (unwritten 512) ∷ breaks 0 ∷ [])
+    ++ all 6 (remove 3 ∷ replace 3 (replicate 512 82) ∷ read 3 0 (unwritten 512) ∷ breaks 3 ∷ [])
     ++ all 7 (add 2 (unwritten 512) ∷ [])
-    ++ all 8 (add 3 (unwritten 511) ∷ add 3 (unwritten 513) ∷ read 2 0 (unwritten 511) ∷ read 2 0 (unwritten 513) ∷ [])
+    ++ all 8
+    (add 3 (unwritten 511) ∷ add 3 (unwritten 513) ∷ replace 2 (replicate 511 82) ∷ replace 2 (replicate 513 82)
+    ∷ read 2 0 (unwritten 511) ∷ read 2 0 (unwritten 513) ∷ [])
     ++ all 9 (read 2 2 (unwritten 512) ∷ read 2 1 (unwritten 1024) ∷ read 9 0 (unwritten 1024) ∷ [])
-    ++ all 11 (add 3 (unwritten 7168) ∷ []))
+    ++ all 11 (add 3 (unwritten 7168) ∷ replace 2 (replicate 8192 82) ∷ [])
+    ++ all 12 (replace 2 (unwritten 512) ∷ []))
+
+-- letters that do not rank above M
+abbrev letterRow : Catalogues → RefusalRow
+letterRow c =
+    row (filledUp (c .bytes) (c .seven)) sixteenWithM
+    (all 13
+    (replace 2 (replicate 512 82) ∷ replace 2 (replicate 512 68) ∷ replace 9 (replicate 512 81)
+    ∷ replace 9 (replicate 512 77) ∷ []))
 
 -- 64 files, and 2 free blocks
 abbrev fullRows : Catalogues → List RefusalRow
@@ -85,25 +102,37 @@ fullRows c =
     row (filledUp (c .bytes) (c .full)) (filledBlocks 0 66)
     (all 7 (add 64 (unwritten 512) ∷ [])
     ++ all 8 (add 65 [] ∷ add 65 (unwritten 511) ∷ [])
-    ++ all 10 (add 65 (unwritten 512) ∷ add 65 (unwritten 1536) ∷ []))
+    ++ all 10 (add 65 (unwritten 512) ∷ add 65 (unwritten 1536) ∷ [])
+    ++ all 11 (replace 64 (replicate 2048 82) ∷ []))
     ∷ row (filledUp (c .bytes) (c .full)) (filledBlocks 0 65) (all 4 (add 65 (unwritten 512) ∷ []))
     ∷ []
 
 -- the rows that are computed in both versions
 abbrev pub refusalTable : Catalogues → List RefusalRow
 refusalTable c =
-    unsoundRow c ∷ argumentRow c ∷ (formatRows c ++ diskRows c (8191 ∷ 8193 ∷ []) ++ fullRows c)
+    unsoundRow c ∷ argumentRow c ∷ letterRow c ∷ (formatRows c ++ diskRows c (8191 ∷ 8193 ∷ []) ++ fullRows c)
 
--- further disks, and where more than one refusal applies the lowest
+-- further disks, and where more than one refusal applies the lowest, or for a replacement the first in its order
 abbrev pub orderTable : Catalogues → List RefusalRow
 orderTable c =
     row (oneByteMore (c .bytes) (c .seven)) (unwritten 8191) (all 3 (wrongCalls ++ breaks 0 ∷ check ∷ []))
     ∷ row (filledUp (c .bytes) (c .seven)) (unwritten 8193) (all 4 wrongCalls)
     ∷ row (filledUp (c .bytes) (c .seven)) sixteen
-    (all 5 (add 0 [] ∷ add 0 (unwritten 7168) ∷ read 0 0 [] ∷ read 0 9 (unwritten 512) ∷ [])
-    ++ all 6 (read 3 0 [] ∷ read 3 9 (unwritten 512) ∷ [])
+    (all 5
+    (add 0 [] ∷ add 0 (unwritten 7168) ∷ replace 0 [] ∷ replace 0 (unwritten 512) ∷ read 0 0 []
+    ∷ read 0 9 (unwritten 512) ∷ [])
+    ++ all 6
+    (replace 3 [] ∷ replace 3 (unwritten 512) ∷ replace 3 (replicate 8704 82) ∷ read 3 0 []
+    ∷ read 3 9 (unwritten 512) ∷ [])
     ++ all 7 (add 2 [] ∷ add 9 (unwritten 513) ∷ add 2 (unwritten 7168) ∷ [])
-    ++ all 8 (add 3 [] ∷ add 3 (unwritten 7169) ∷ read 2 9 [] ∷ read 2 9 (unwritten 513) ∷ []))
+    ++ all 8
+    (add 3 [] ∷ add 3 (unwritten 7169) ∷ replace 2 [] ∷ replace 2 (unwritten 513) ∷ replace 2 (replicate 8193 82)
+    ∷ read 2 9 [] ∷ read 2 9 (unwritten 513) ∷ [])
+    ++ all 12 (replace 2 (unwritten 8192) ∷ []))
+    ∷ row (filledUp (c .bytes) (c .seven)) sixteenWithM
+    (all 8 (replace 2 (replicate 513 82) ∷ [])
+    ++ all 12 (replace 2 (unwritten 512) ∷ replace 2 (unwritten 8192) ∷ [])
+    ++ all 13 (replace 2 (replicate 8192 81) ∷ replace 2 (replicate 8192 77) ∷ []))
     ∷ diskRows c (0 ∷ 7680 ∷ 8704 ∷ [])
 
 -- ---- the versions

@@ -3,15 +3,14 @@ use mathlib.Core.List.{List, [], _++_}
 use mathlib.Core.Path.{_∙_, _≡_, ap, ap₂, subst, sym}
 use Prim.Native.Nat.{_+_, _-_, _<_, _≤_, ℕ}
 use native.Mathlib.Omega.{arith}
-use lib.ListN.{length, length-append, length-map, replicate, take}
-use lib.Seq.{length-take-le}
+use lib.ListN.{length, length-append, replicate, take}
 use Rattle.section.specs.Limits.{heightCount, mostFiles}
 use Rattle.section.specs.declared.Section.{Section}
 use Rattle.layout.proofs.Lists.{each-imp}
 use Rattle.layout.specs.Layout.{Layout, filePieces}
 use Rattle.layout.specs.Lists.{Each}
 use Rattle.layout.specs.Sound.{Sound}
-use Rattle.table.specs.Tables.{Sized, fileOf, filesOf}
+use Rattle.table.specs.Tables.{Sized, filesOf}
 use Rattle.table.specs.declared.Table.{Table}
 use Rattle.catalogue.proofs.Fields.{bigEndian-length}
 use Rattle.catalogue.proofs.Grouping.{entriesBytes-nil, headerBytes-parts, usedBytes-parts}
@@ -22,13 +21,11 @@ use Rattle.catalogue.specs.Version.{OneOf, shortField, versions}
 use Rattle.catalogue.specs.declared.Version.{Version}
 use Rattle.pieces.specs.Pieces.{Low}
 use Rattle.encoder.specs.Store.{Room, Written, headerFields, noFiles}
+use Rattle.table.proofs.Released.{length-files}
 use Rattle.encoder.proofs.StoreWritten.{room-left, room-right, written-more, written-none}
 
 pub files-count : (t : Table) → Sized t → length (t .files) ≡ mostFiles → t .count ≡ length (filesOf t)
-unfolding filesOf
-files-count t sized exact =
-    sym (length-map (take (t .count) (t .files)) fileOf
-    ∙ length-take-le (t .count) (t .files) (omega (arith, sized .files)))
+files-count t sized exact = sym (length-files t (omega (arith, sized .files)))
 
 -- ---- the header
 

@@ -9,9 +9,9 @@ use lib.ListN.{length}
 use Rattle.catalogue.specs.declared.Version.{Version}
 use Rattle.layout.specs.Carries.{carries}
 use Rattle.layout.specs.Layout.{File, Layout, breaksOf, fileBlocks, findFile, found, freeBlocks}
-use Rattle.layout.specs.Removing.{copiesOf, removal}
-use Rattle.manager.specs.Book.{Book, Line, inBook, line, lineWith, pagesInLines, refuses}
-use Rattle.manager.specs.Call.{Call, breaks, outputOf, remove}
+use Rattle.manager.specs.Book.{Book, inBook, refuses}
+use Rattle.manager.specs.Call.{Call, breaks, outputOf, remove, replace}
+use Rattle.manager.specs.Claimed.{CopiesClaimed}
 use Rattle.manager.specs.Outcomes.{formatOutcome, perform}
 use Rattle.manager.specs.Table.{CatalogueOf}
 use Rattle.manager.specs.WholeList.{Afterwards}
@@ -37,15 +37,16 @@ code-claims c cat d b r a = (
     kept : ((n : ℕ) → r .code ≡ pos n → ⊥) → AltersBy c (r .code) → ⊥
     kept below x = let w = code-alters-only c (r .code) x .0 in below (w .0) (w .1)
 
--- a removal that gives back n: n is the number of copies of the definition, and at most the carries of f + n over the 21
--- heights
+-- a removal that gives back n: n is the number of copies of the definition, and at most the carries of f + n over the
+-- 21 heights
 pub code-removal-claims : (i n : ℕ) (cat d : List ℕ) (b : Book) (r : Returned) → CodeAgrees (remove i) cat d b r
-    → r .code ≡ pos n
-    → ((l : Layout) (f : File) → CatalogueOf cat l → findFile i (l .files) ≡ found f
-    → n ≡ length (copiesOf (removal 21 f l)))
-    × ((x : Line) → lineWith i (b .lines) ≡ line x
-    → n ≤ carries 21 (b .blocks - pagesInLines (b .lines)) (length (x .pages)))
+    → r .code ≡ pos n → CopiesClaimed i n cat b
 code-removal-claims i n cat d b r a e = (λ l f. a .copies i n l f refl e, λ x. a .limit i n x refl e)
+
+-- and so does a replacement, n being that of the file that goes
+pub code-replacement-claims : (i n : ℕ) (bs cat d : List ℕ) (b : Book) (r : Returned)
+    → CodeAgrees (replace i bs) cat d b r → r .code ≡ pos n → CopiesClaimed i n cat b
+code-replacement-claims i n bs cat d b r a e = (λ l f. a .copies i n l f refl e, λ x. a .limit i n x refl e)
 
 -- breaks that give back n: the pieces of the file in the catalogue less one
 pub code-breaks-claims : (i n : ℕ) (cat d : List ℕ) (b : Book) (r : Returned) → CodeAgrees (breaks i) cat d b r
@@ -86,4 +87,10 @@ exported-format-keeps w cat d r p = (
 pub exported-limit : ExportedList → (cat d : List ℕ) (r : Returned) (l : Layout) (i n : ℕ) (f : File)
     → AsPromised (perform (remove i) cat d) r → CatalogueOf cat l → findFile i (l .files) ≡ found f
     → r .code ≡ pos n → n ≤ carries 21 (freeBlocks l) (fileBlocks f)
-exported-limit w = w .limit
+exported-limit w cat d r l i n f = w .limit (remove i) cat d r l i n f refl
+
+-- and so is a replacement
+pub exported-replacement-limit : ExportedList → (bs cat d : List ℕ) (r : Returned) (l : Layout) (i n : ℕ) (f : File)
+    → AsPromised (perform (replace i bs) cat d) r → CatalogueOf cat l → findFile i (l .files) ≡ found f
+    → r .code ≡ pos n → n ≤ carries 21 (freeBlocks l) (fileBlocks f)
+exported-replacement-limit w bs cat d r l i n f = w .limit (replace i bs) cat d r l i n f refl

@@ -1,7 +1,7 @@
 -- What the words of the claim about exported calls mean, from its own definitions and from any proof of it, and that
 -- its lists are there: whatever is called, the calls' own outcomes make one. Assumes nothing.
 use mathlib.Core.List.{List, [], _∷_}
-use mathlib.Core.Logic.{_↔_, _⊎_, inl, inr}
+use mathlib.Core.Logic.{_↔_, inl, inr}
 use mathlib.Core.Path.{_∙_, _≡_, ap, refl, sym}
 use Prim.Native.Nat.{_*_, _≤_, ℕ}
 use native.Mathlib.Omega.{arith}
@@ -11,7 +11,8 @@ use Rattle.catalogue.specs.Version.{here, later, version1, version2}
 use Rattle.catalogue.specs.declared.Version.{Version}
 use Rattle.evdisk.specs.Called.{Claimed, calledOn}
 use Rattle.manager.specs.Book.{BookReply, answers, anyNumber, refuses}
-use Rattle.manager.specs.Call.{Call, ListedCall, add, breaks, check, free, read, remove}
+use Rattle.manager.specs.Call.{Call, ListedCall, add, breaks, check, free, read, remove, replace}
+use Rattle.manager.specs.Claimed.{Changing}
 use Rattle.manager.specs.Outcomes.{perform}
 use Rattle.manager.specs.WholeList.{RightLengths}
 use Rattle.evdisk.proofs.CodesApart.{codes-apart, refusals-apart}
@@ -40,11 +41,11 @@ code-refuses-exactly anyNumber r (m, e) n one = (
 pub code-answers-alike : (n : ℕ) (r : ℤ) → CodeOfBook (answers n) r → r ≡ pos n
 code-answers-alike n r e = e
 
--- what alters anything is an add or a removal that gives back 0 or more
-pub code-alters-only : (c : Call) (r : ℤ) → AltersBy c r
-    → ((n : ℕ) × (r ≡ pos n)) × (((i : ℕ) × (bs : List ℕ) × (c ≡ add i bs)) ⊎ ((i : ℕ) × (c ≡ remove i)))
+-- what alters anything is an add, a removal or a replacement that gives back 0 or more
+pub code-alters-only : (c : Call) (r : ℤ) → AltersBy c r → ((n : ℕ) × (r ≡ pos n)) × Changing c
 code-alters-only (add i bs) r a = (a, inl (i, bs, refl))
-code-alters-only (remove i) r a = (a, inr (i, refl))
+code-alters-only (remove i) r a = (a, inr (inl (i, refl)))
+code-alters-only (replace i bs) r a = (a, inr (inr (i, bs, refl)))
 code-alters-only (read i p o) r a = absurd a
 code-alters-only (breaks i) r a = absurd a
 code-alters-only free r a = absurd a

@@ -31,11 +31,11 @@ pub code-answer : (y : Reply) → ((m : ℕ) → y ≡ refused m → 1 ≤ m) �
 code-answer (answered m) some n e = cc
 code-answer (refused m) some n e = absurd (codes-apart m n (some m refl) e)
 
--- every refusal of the code and its number, -1 to -11, and two answers
+-- every refusal of the code and its number, -1 to -13, and two answers
 pub literal-codes : map (λ a. codeOf (replyOf a))
     (Answer·.CatalogueLength ∷ Answer·.NoDisk ∷ Answer·.NotSound ∷ Answer·.DiskLength ∷ Answer·.IdZero
     ∷ Answer·.IdMissing ∷ Answer·.IdThere ∷ Answer·.BufferLength ∷ Answer·.PastEnd ∷ Answer·.FilesFull
-    ∷ Answer·.NoSpace ∷ Answer·.Number 0 ∷ Answer·.Number 7 ∷ [])
+    ∷ Answer·.NoSpace ∷ Answer·.LetterUnknown ∷ Answer·.LetterNotAbove ∷ Answer·.Number 0 ∷ Answer·.Number 7 ∷ [])
     ≡ negsuc 0 ∷ negsuc 1 ∷ negsuc 2 ∷ negsuc 3 ∷ negsuc 4 ∷ negsuc 5 ∷ negsuc 6 ∷ negsuc 7 ∷ negsuc 8 ∷ negsuc 9
-    ∷ negsuc 10 ∷ pos 0 ∷ pos 7 ∷ []
+    ∷ negsuc 10 ∷ negsuc 11 ∷ negsuc 12 ∷ pos 0 ∷ pos 7 ∷ []
 literal-codes = refl

@@ -14,7 +14,7 @@ use Rattle.manager.proofs.Refusals.{format-refused-changes-nothing, refused-cha
 use Rattle.manager.proofs.Untouched.{format-keeps-disk}
 use Rattle.manager.proofs.WholeList.{whole-list}
 use Rattle.manager.specs.Book.{Book, BookReply, answers, anyNumber, freshBook, inBook, refuses}
-use Rattle.manager.specs.Call.{Call, ListedCall, add, breaks, check, free, outputOf, read, remove}
+use Rattle.manager.specs.Call.{Call, ListedCall, add, breaks, check, free, outputOf, read, remove, replace}
 use Rattle.manager.specs.Conditions.{Reply, answered, refused}
 use Rattle.manager.specs.Outcomes.{formatOutcome, perform}
 use Rattle.manager.specs.WholeList.{Alters, CallAgrees, Follows, RepliesAgree, RightLengths}
@@ -40,6 +40,8 @@ alters-by (add i bs) (answered n) r e a = (n, e)
 alters-by (add i bs) (refused n) r e a = absurd a
 alters-by (remove i) (answered n) r e a = (n, e)
 alters-by (remove i) (refused n) r e a = absurd a
+alters-by (replace i bs) (answered n) r e a = (n, e)
+alters-by (replace i bs) (refused n) r e a = absurd a
 alters-by (read i p o) y r e a = absurd a
 alters-by (breaks i) y r e a = absurd a
 alters-by free y r e a = absurd a
@@ -137,5 +139,5 @@ exported-list = record {
   format-refused = format-kept;
   list = λ c cat d r p. format-list cat d r p c;
   refused-keeps = refused-kept;
-  limit = λ cat d r l i n f p w e q. whole-list .limit cat d l i n f w e (answer-by-code (remove i) cat d r p n q);
+  limit = λ c cat d r l i n f t p w e q. whole-list .limit c cat d l i n f t w e (answer-by-code c cat d r p n q);
 }

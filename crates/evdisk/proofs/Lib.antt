@@ -2,6 +2,7 @@
 pub mod Signed
 pub mod CodesApart
 mod Within
+mod Promising
 pub mod ExportedList
 pub mod CodeWords
 pub mod CodeClaims

@@ -1,4 +1,4 @@
--- A removal's number is within the carries because its answer is. Assumes nothing.
+-- The number of a removal or a replacement is within the carries because its answer is. Assumes nothing.
 use mathlib.Core.List.{List}
 use mathlib.Core.Logic.{_⊎_, inl, inr}
 use mathlib.Core.Path.{_≡_, _∙_, sym}

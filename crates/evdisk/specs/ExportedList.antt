@@ -13,11 +13,11 @@ use Rattle.layout.specs.Layout.{File, Layout, breaksOf, fileBlocks, findFile, f
 use Rattle.layout.specs.Removing.{copiesOf, removal}
 use Rattle.manager.specs.Book.{Book, BookReply, Line, answers, anyNumber, bookFree, freshBook, inBook, line}
 use Rattle.manager.specs.Book.{lineWith, refuses}
-use Rattle.manager.specs.Call.{Call, ListedCall, add, breaks, check, free, outputOf, read, remove}
+use Rattle.manager.specs.Call.{Call, ListedCall, add, breaks, check, free, outputOf, read, remove, replace}
 use Rattle.manager.specs.Conditions.{Outcome}
 use Rattle.manager.specs.Outcomes.{formatOutcome, perform}
 use Rattle.manager.specs.Table.{CatalogueOf}
-use Rattle.manager.specs.WholeList.{Afterwards, RightLengths}
+use Rattle.manager.specs.WholeList.{Afterwards, RightLengths, Strikes}
 use Rattle.section.specs.Limits.{heightCount}
 use Rattle.evdisk.specs.Codes.{codeOf}
 
@@ -64,10 +64,11 @@ CodeOfBook (refuses n) r = (1 ≤ n) × (r ≡ negℤ (pos n))
 CodeOfBook (answers n) r = r ≡ pos n
 CodeOfBook anyNumber r = (n : ℕ) × (r ≡ pos n)
 
--- only an add or a removal that gives back 0 or more alters anything
+-- only an add, a removal or a replacement that gives back 0 or more alters anything
 abbrev pub AltersBy : Call → ℤ → Type 0
 AltersBy (add i bs) r = (n : ℕ) × (r ≡ pos n)
 AltersBy (remove i) r = (n : ℕ) × (r ≡ pos n)
+AltersBy (replace i bs) r = (n : ℕ) × (r ≡ pos n)
 AltersBy (read i p o) r = ⊥
 AltersBy (breaks i) r = ⊥
 AltersBy free r = ⊥
@@ -81,10 +82,11 @@ pub record CodeAgrees (c : Call) (cat d : List ℕ) (b : Book) (r : Returned) : 
   pub catalogue-kept : (AltersBy c (r .code) → ⊥) → r .catalogue ≡ cat
   pub disk-kept : (AltersBy c (r .code) → ⊥) → r .disk ≡ d
   pub book-kept : (AltersBy c (r .code) → ⊥) → inBook c b .book ≡ b
-  -- a removal gives back the number of block copies made at its steps, within the carries of f + n
-  pub copies : (i n : ℕ) (l : Layout) (f : File) → c ≡ remove i → r .code ≡ pos n → CatalogueOf cat l
+  -- a removal, and a replacement, gives back the number of block copies made at the removal's steps, within the carries
+  -- of f + n, n being that of the file that goes
+  pub copies : (i n : ℕ) (l : Layout) (f : File) → Strikes i c → r .code ≡ pos n → CatalogueOf cat l
       → findFile i (l .files) ≡ found f → n ≡ length (copiesOf (removal heightCount f l))
-  pub limit : (i n : ℕ) (x : Line) → c ≡ remove i → r .code ≡ pos n → lineWith i (b .lines) ≡ line x
+  pub limit : (i n : ℕ) (x : Line) → Strikes i c → r .code ≡ pos n → lineWith i (b .lines) ≡ line x
       → n ≤ carries heightCount (bookFree b) (length (x .pages))
   -- breaks gives back the breaks of the file's pieces in the catalogue
   pub breaks-answer : (i n : ℕ) (l : Layout) (f : File) → c ≡ breaks i → r .code ≡ pos n → CatalogueOf cat l
@@ -115,7 +117,7 @@ pub record ExportedList : Type 0 where
   -- whatever the bytes, a call that gives back a number below 0 leaves every buffer as it was
   pub refused-keeps : (c : Call) (cat d : List ℕ) (r : Returned) → AsPromised (perform c cat d) r
       → ((n : ℕ) → r .code ≡ pos n → ⊥) → (r .catalogue ≡ cat) × (r .disk ≡ d) × (r .output ≡ outputOf c)
-  -- the limit on copies stands for a removal on every sound catalogue
-  pub limit : (cat d : List ℕ) (r : Returned) (l : Layout) (i n : ℕ) (f : File)
-      → AsPromised (perform (remove i) cat d) r → CatalogueOf cat l → findFile i (l .files) ≡ found f
+  -- the limit on copies stands for a removal and a replacement on every sound catalogue
+  pub limit : (c : Call) (cat d : List ℕ) (r : Returned) (l : Layout) (i n : ℕ) (f : File) → Strikes i c
+      → AsPromised (perform c cat d) r → CatalogueOf cat l → findFile i (l .files) ≡ found f
       → r .code ≡ pos n → n ≤ carries heightCount (freeBlocks l) (fileBlocks f)

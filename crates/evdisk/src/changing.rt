@@ -1,8 +1,8 @@
 // The exported calls that change a catalogue.
 ghost use mathlib.Core.List.{[]};
 ghost use mathlib.Core.Path.{_≡_};
-ghost use Rattle.manager.specs.Call.{add, remove};
-ghost use Rattle.manager.specs.Outcomes.{addOutcome, formatOutcome, perform, removeOutcome};
+ghost use Rattle.manager.specs.Call.{add, remove, replace};
+ghost use Rattle.manager.specs.Outcomes.{addOutcome, formatOutcome, perform, removeOutcome, replaceOutcome};
 ghost use Rattle.evdisk.specs.Codes.{CodeWithinCarries, codeOf};
 ghost use Rattle.evdisk.specs.ExportedList.{AsPromised, returned};
 use super::codes::code;
@@ -52,5 +52,24 @@ pub extern "C" fn evdisk_remove(cat: &mut [u8], disk: &mut [u8], id: u16) -> i64
         (returned r (now (cat .exit)) (now (disk .exit)) []) ⌝ }
 {
     let a = event_disk::remove(cat, disk, id);
+    code(a)
+}
+
+// Puts a content in the place of a file: the number of blocks that were copied when that was removed.
+#[no_mangle]
+pub extern "C" fn evdisk_replace(cat: &mut [u8], disk: &mut [u8], id: u16, content: &[u8]) -> i64
+    ensures answer { λ r. ⌜ r
+        ≡ codeOf (replaceOutcome id (now (content .entry)) (now (cat .entry)) (now (disk .entry)) .reply) ⌝ }
+    ensures catalogue { λ _. ⌜ now (cat .exit)
+        ≡ replaceOutcome id (now (content .entry)) (now (cat .entry)) (now (disk .entry)) .catalogue ⌝ }
+    ensures disk { λ _. ⌜ now (disk .exit)
+        ≡ replaceOutcome id (now (content .entry)) (now (cat .entry)) (now (disk .entry)) .disk ⌝ }
+    ensures content { λ _. ⌜ now (content .exit) ≡ now (content .entry) ⌝ }
+    ensures limit { λ r. ⌜ CodeWithinCarries (now (cat .entry)) id r ⌝ }
+    ensures listed { λ r. ⌜ AsPromised
+        (perform (replace id (now (content .entry))) (now (cat .entry)) (now (disk .entry)))
+        (returned r (now (cat .exit)) (now (disk .exit)) []) ⌝ }
+{
+    let a = event_disk::replace(cat, disk, id, content);
     code(a)
 }

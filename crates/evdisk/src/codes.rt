@@ -22,5 +22,7 @@ pub fn code(a: Answer) -> i64
         Answer::PastEnd => -9,
         Answer::FilesFull => -10,
         Answer::NoSpace => -11,
+        Answer::LetterUnknown => -12,
+        Answer::LetterNotAbove => -13,
     }
 }

@@ -26,7 +26,8 @@ use Rattle.manager.proofs.OnRead.{not-sound, wrong-length}
 use Rattle.manager.specs.Conditions.{Outcome, outcome, refused}
 use Rattle.table.specs.Tables.{layoutOf}
 use Rattle.table.specs.declared.Table.{Table}
-use Rattle.event_disk.specs.Opening.{Entered, Opens, Shut, Stores}
+use Rattle.event_disk.specs.Opening.{Entered, Opens, Shut, Storable, Stores}
+use Rattle.event_disk.specs.declared.Opening.{Opening}
 
 -- ---- opening
 
@@ -93,7 +94,7 @@ module _ (cat : List ℕ) (v : Version) (same : v ≡ versionOf cat) (l : Loaded
 -- ---- storing
 
 -- what a call made of an entered table is sound in the catalogue's version, since C stays
-pub own-rules : (cat : List ℕ) (t : Table) → Entered cat t → {o : Version → List ℕ → Outcome} {d′ : List ℕ}
+own-rules : (cat : List ℕ) (t : Table) → Entered cat t → {o : Version → List ℕ → Outcome} {d′ : List ℕ}
     (r : Changed)
     → Makes (t .blocks) o d′ r → r .changed ≡ true → Sound (versionOf cat .heights) (layoutOf (r .table))
 unfolding layoutOf
@@ -101,6 +102,14 @@ own-rules cat t x r m e =
     sound-lower (versionOf cat .heights) heightCount (layoutOf (r .table))
     (omega (arith, roomy (version-of-one (length cat)) .some-heights))
     (subst (λ n. n ≤ greatestBlocks (versionOf cat)) (sym (m .blocks e)) (x .rules .most-blocks)) (m .rules e)
+
+-- and so it can be stored
+pub storable : (cat : List ℕ) (o : Opening) → Opens cat o → o .entered ≡ true → {past : Version → List ℕ → Outcome}
+    {d′ : List ℕ} (r : Changed)
+    → Makes (o .table .blocks) past d′ r → Storable (o .version) cat r
+storable cat o opens e r m =
+    let x = opens .entered e in
+    record { version = opens .version; bytes = x .bytes; sized = m .sized; rules = own-rules cat (o .table) x r m }
 
 -- ---- the outcomes
 
@@ -115,18 +124,16 @@ shut-out cat d out a s full e = (
   sym (ap (λ x. x .output) e),
 )
 
--- a call whose outcome is `full`, which past the catalogue is o
-module _ (b : ℕ) (o : Version → List ℕ → Outcome) (cat cat′ d′ : List ℕ) (r : Changed) (m : Makes b o d′ r)
-    (st : Stores r cat cat′) (full : Outcome) (eq : full ≡ o (versionOf cat) cat) where
-  pub made-reply : replyOf (r .answer) ≡ full .reply
-  made-reply = m .answer (versionOf cat) cat ∙ sym (ap (λ x. x .reply) eq)
-
-  pub made-disk : d′ ≡ full .disk
-  made-disk = m .disk (versionOf cat) cat ∙ sym (ap (λ x. x .disk) eq)
-
-  pub made-catalogue : cat′ ≡ full .catalogue
-  made-catalogue = by (r .changed) refl ∙ sym (ap (λ x. x .catalogue) eq)
-    where
-      by : (b : Bool) → r .changed ≡ b → cat′ ≡ o (versionOf cat) cat .catalogue
-      by true e = st .stored e ∙ m .stored e (versionOf cat) cat
-      by false e = st .kept e ∙ m .kept e (versionOf cat) cat
+-- a call whose outcome is `full`, which past the catalogue is o, and whose answer is a
+pub made : (b : ℕ) (o : Version → List ℕ → Outcome) (cat cat′ d′ : List ℕ) (r : Changed) → Makes b o d′ r
+    → Stores r cat cat′ → (full : Outcome) → full ≡ o (versionOf cat) cat → (a : Answer) → a ≡ r .answer
+    → (replyOf a ≡ full .reply) × (cat′ ≡ full .catalogue) × (d′ ≡ full .disk)
+made b o cat cat′ d′ r m st full eq a same = (
+  ap replyOf same ∙ (m .answer (versionOf cat) cat ∙ sym (ap (λ x. x .reply) eq)),
+  by (r .changed) refl ∙ sym (ap (λ x. x .catalogue) eq),
+  m .disk (versionOf cat) cat ∙ sym (ap (λ x. x .disk) eq),
+)
+  where
+    by : (b : Bool) → r .changed ≡ b → cat′ ≡ o (versionOf cat) cat .catalogue
+    by true e = st .stored e ∙ m .stored e (versionOf cat) cat
+    by false e = st .kept e ∙ m .kept e (versionOf cat) cat

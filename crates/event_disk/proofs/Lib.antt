@@ -1,4 +1,5 @@
--- The laws of the seven calls, by subject.
+-- The laws of the eight calls, by subject.
 pub mod Entering
 pub mod RemovalLimit
 pub mod FormatOutcome
+pub mod ReplaceOutcome

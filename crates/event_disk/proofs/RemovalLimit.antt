@@ -1,13 +1,16 @@
--- A removal that is answered copies at most the carries of f + n, as the claim says of every sound catalogue. Assumes
--- nothing.
+-- A removal or a replacement that is answered copies at most the carries of f + n, as the claim says of every sound
+-- catalogue. Assumes nothing.
 use mathlib.Core.List.{List}
 use mathlib.Core.Path.{_∙_, _≡_, sym}
 use Prim.Native.Nat.{ℕ}
 use Rattle.event_disk.specs.Limit.{WithinCarries}
 use Rattle.manager.proofs.WholeList.{whole-list}
+use Rattle.manager.specs.Call.{Call}
 use Rattle.manager.specs.Conditions.{Reply}
-use Rattle.manager.specs.Outcomes.{removeOutcome}
+use Rattle.manager.specs.Outcomes.{perform}
+use Rattle.manager.specs.WholeList.{Strikes}
 
-pub removal-within : (cat : List ℕ) (i : ℕ) (d : List ℕ) (r : Reply) → r ≡ removeOutcome i cat d .reply
-    → WithinCarries cat i r
-removal-within cat i d r same l f n h there e = whole-list .limit cat d l i n f h there (sym same ∙ e)
+pub within-carries : (c : Call) (cat : List ℕ) (i : ℕ) (d : List ℕ) (r : Reply) → Strikes i c
+    → r ≡ perform c cat d .reply → WithinCarries cat i r
+within-carries c cat i d r struck same l f n h there e =
+    whole-list .limit c cat d l i n f struck h there (sym same ∙ e)

@@ -1,4 +1,5 @@
--- The limit on the copies of a removal: the carries of f + n of the catalogue at entry. Definitions only.
+-- The limit on the copies of a removal, also that of a replacement: the carries of f + n of the catalogue at entry.
+-- Definitions only.
 use mathlib.Core.Path.{_≡_}
 use mathlib.Core.List.{List}
 use Prim.Native.Nat.{ℕ, _≤_}

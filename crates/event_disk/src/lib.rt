@@ -1,4 +1,4 @@
-// The seven calls on a lent catalogue and a lent disk: whatever the buffers and numbers, an answer or a named
+// The eight calls on a lent catalogue and a lent disk: whatever the buffers and numbers, an answer or a named
 // refusal.
 mod catalogues;
 mod changing;
@@ -8,6 +8,7 @@ mod reading;
 use catalogue::Version;
 pub use changing::add;
 pub use changing::remove;
+pub use changing::replace;
 pub use formatting::format;
 use looking::Answer;
 pub use reading::breaks;

@@ -76,6 +76,11 @@ find-each (there {g = g} {l = l} n q) p =
     let x = find-each q (each-right (g .pieces) (filePieces l) p) in
     (x .0, each-append (each-left (g .pieces) (filePieces l) p) (x .1))
 
+-- what every file has the found one has
+pub find-file : {i : ℕ} {l r : List File} {f : File} {P : File → Type 0} → Find i l f r → Each P l → P f
+find-file (here e) (more p q) = p
+find-file (there n x) (more p q) = find-file x q
+
 pub find-shapes : {i : ℕ} {l r : List File} {f : File} {P : Shape → Type 0} → Find i l f r → Each P (map shape l)
     → P (shape f) × Each P (map shape r)
 find-shapes (here e) (more p q) = (p, q)

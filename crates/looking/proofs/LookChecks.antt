@@ -1,14 +1,14 @@
--- The conditions on the disk and on the id, before any others. Assumes nothing.
-use mathlib.Core.Bool.{not}
+-- The conditions on the disk and on the id, before any others, and the one on a buffer's length. Assumes nothing.
+use mathlib.Core.Bool.{_||_, false, not, true}
 use mathlib.Core.List.{List, _∷_}
-use mathlib.Core.Path.{_∙_, _≡_, ap}
-use Prim.Native.Nat.{_*_, ℕ}
+use mathlib.Core.Path.{_∙_, _≡_, ap, ap₂}
+use Prim.Native.Nat.{_%_, _*_, ℕ}
 use lib.Dec.{eqb}
 use lib.ListN.{length}
 use borrow.Author.Tests.{eq-eqb, ne-eqb}
 use Rattle.layout.specs.Layout.{File, Layout, findFile, found, hasFile, isFound, missing}
 use Rattle.manager.proofs.Judging.{passes, refuses-by}
-use Rattle.manager.specs.Conditions.{Condition, condition, firstRefusal, refusal, wrongDisk}
+use Rattle.manager.specs.Conditions.{Condition, condition, firstRefusal, refusal, unpaged, wrongDisk}
 use Rattle.section.specs.Limits.{blockSize}
 
 -- ---- the disk
@@ -45,3 +45,18 @@ module _ (l : Layout) (i : ℕ) (cs : List Condition) where
     id-found f e =
         id-some
         ∙ passes (condition 6 (not (hasFile i (l .files)))) cs (ap (λ x. not (isFound x)) e)
+
+-- ---- the length of a content or an output
+
+module _ (bs : List ℕ) where
+  pub empty-unpaged : length bs ≡ 0 → unpaged bs ≡ true
+  empty-unpaged z = ap (λ s. s || not (eqb (length bs % blockSize) 0)) (eq-eqb (length bs) 0 z)
+
+  module _ (full : length bs ≡ 0 → ⊥) where
+    pub part-unpaged : (length bs % blockSize ≡ 0 → ⊥) → unpaged bs ≡ true
+    part-unpaged n =
+        ap₂ (λ s u. s || not u) (ne-eqb (length bs) 0 full) (ne-eqb (length bs % blockSize) 0 n)
+
+    pub whole-paged : length bs % blockSize ≡ 0 → unpaged bs ≡ false
+    whole-paged e =
+        ap₂ (λ s u. s || not u) (ne-eqb (length bs) 0 full) (eq-eqb (length bs % blockSize) 0 e)

@@ -1,12 +1,12 @@
 -- Reading in code: by what a read is refused, and what it answers. Assumes nothing.
-use mathlib.Core.Bool.{_||_, false, not, true}
+use mathlib.Core.Bool.{false, true}
 use mathlib.Core.List.{List, [], _∷_}
 use mathlib.Core.Path.{_∙_, _≡_, ap, ap₂, sym}
 use Prim.Native.Nat.{_%_, _*_, _+_, _<_, _≤_, ℕ}
-use lib.Dec.{eqb}
 use lib.ListN.{drop, length, take}
-use borrow.Author.Tests.{eq-eqb, le-ltb, lt-ltb, ne-eqb}
-use Rattle.looking.proofs.LookChecks.{disk-right, disk-wrong, id-found, id-missing, id-zero}
+use borrow.Author.Tests.{le-ltb, lt-ltb}
+use Rattle.looking.proofs.LookChecks.{disk-right, disk-wrong, empty-unpaged, id-found, id-missing, id-zero}
+use Rattle.looking.proofs.LookChecks.{part-unpaged, whole-paged}
 use Rattle.looking.specs.Opened.{readOn}
 use Rattle.layout.specs.Layout.{File, fileBlocks, findFile, found, missing}
 use Rattle.layout.specs.Lists.{done}
@@ -69,19 +69,15 @@ module _ (t : Table) (i p : ℕ) (o d : List ℕ) where
       read-unpaged u = read-refused 8 (past-id ∙ refuses-by (condition 8 (unpaged o)) last u)
 
       pub read-empty : length o ≡ 0 → Reads (refused 8) o
-      read-empty z =
-          read-unpaged (ap (λ s. s || not (eqb (length o % blockSize) 0)) (eq-eqb (length o) 0 z))
+      read-empty z = read-unpaged (empty-unpaged o z)
 
       module _ (full : length o ≡ 0 → ⊥) where
         pub read-broken : (length o % blockSize ≡ 0 → ⊥) → Reads (refused 8) o
-        read-broken z =
-            read-unpaged (ap₂ (λ s u. s || not u) (ne-eqb (length o) 0 full)
-            (ne-eqb (length o % blockSize) 0 z))
+        read-broken z = read-unpaged (part-unpaged o full z)
 
         module _ (whole : length o % blockSize ≡ 0) where
           paged : unpaged o ≡ false
-          paged =
-              ap₂ (λ s u. s || not u) (ne-eqb (length o) 0 full) (eq-eqb (length o % blockSize) 0 whole)
+          paged = whole-paged o full whole
 
           past-pages : judged ≡ firstRefusal last
           past-pages = past-id ∙ passes (condition 8 (unpaged o)) last paged

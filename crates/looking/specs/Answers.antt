@@ -1,4 +1,5 @@
--- What the code's answers stand for: document 01's number of each refusal, and the answered number. Definitions only.
+-- What the code's answers stand for: the number of each refusal, 12 and 13 by document 02, W1, the others by document
+-- 01; and the answered number. Definitions only.
 use Rattle.manager.specs.Conditions.{Reply, answered, refused}
 use Rattle.looking.specs.declared.Answer.{Answer}
 use Rattle.looking.specs.declared.Answer.the-variants as Answer·
@@ -16,3 +17,5 @@ replyOf Answer·.BufferLength = refused 8
 replyOf Answer·.PastEnd = refused 9
 replyOf Answer·.FilesFull = refused 10
 replyOf Answer·.NoSpace = refused 11
+replyOf Answer·.LetterUnknown = refused 12
+replyOf Answer·.LetterNotAbove = refused 13

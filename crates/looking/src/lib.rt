@@ -23,4 +23,6 @@ pub enum Answer {
     PastEnd,
     FilesFull,
     NoSpace,
+    LetterUnknown,
+    LetterNotAbove,
 }

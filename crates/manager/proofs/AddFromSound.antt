@@ -2,7 +2,7 @@
 use mathlib.Core.Bool.{false}
 use mathlib.Core.List.{List, [], map}
 use mathlib.Core.Logic.{_↔_}
-use mathlib.Core.Path.{_∙_, _≡_, ap₂, refl, subst, sym}
+use mathlib.Core.Path.{_∙_, _≡_, ap, ap₂, refl, subst, sym}
 use Prim.Native.Nat.{_*_, _+_, _<_, _≤_, ℕ}
 use native.Mathlib.Omega.{arith}
 use lib.Dec.{eqb, leb, ltb}
@@ -115,13 +115,15 @@ module _ (v : Version) (room : Roomy v) (l : Layout) (s : Sound (v .heights) l) 
       (le-ltb (freeBlocks l) (pageCount bs) fits) done)))))
 
   -- from any sound catalogue
+  pub add-does : addOutcome i bs (encode v l) d
+      ≡ addPieces v i bs (encode v l) d l (allocate 0 heightCount (pageCount bs) (l .free))
+  add-does =
+      add-on-sound v room l s d ld i bs
+      ∙ ap (λ j. unlessRefused j (encode v l) d []
+      (addPieces v i bs (encode v l) d l (allocate 0 heightCount (pageCount bs) (l .free)))) no-condition
+
   pub add-from-sound : Adds v l d i bs (addOutcome i bs (encode v l) d)
-  add-from-sound =
-      subst (Adds v l d i bs) (sym (add-on-sound v room l s d ld i bs))
-      (subst (λ j. Adds v l d i bs
-      (unlessRefused j (encode v l) d []
-      (addPieces v i bs (encode v l) d l (allocate 0 heightCount (pageCount bs) (l .free)))))
-      (sym no-condition) adds)
+  add-from-sound = subst (Adds v l d i bs) (sym add-does) adds
 
 -- adding succeeds exactly if n is at most f
 pub add-answered-iff : (v : Version) → Roomy v → (l : Layout) → Sound (v .heights) l → (d : List ℕ)

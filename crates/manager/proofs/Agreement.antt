@@ -22,13 +22,14 @@ use Rattle.manager.proofs.Lines.{line-with, lineFound, noted-file, page
 use Rattle.manager.proofs.OnSound.{add-on-sound, breaks-on-sound, check-on-sound, free-on-sound}
 use Rattle.manager.proofs.OnSound.{read-on-sound, remove-on-sound}
 use Rattle.manager.proofs.RemoveFromSound.{removes}
+use Rattle.manager.proofs.ReplaceAgrees.{replace-agrees}
 use Rattle.manager.proofs.Standing.{book-free, bookOn}
-use Rattle.manager.proofs.Steps.{StepClaim, add-claim, answered-claim, answered-same, refused-claim}
-use Rattle.manager.proofs.Steps.{remove-claim, same-file}
+use Rattle.manager.proofs.ChangeClaims.{add-claim, remove-claim}
+use Rattle.manager.proofs.Steps.{StepClaim, answered-claim, answered-same, refused-claim, same-file}
 use Rattle.manager.specs.Book.{Book, BookStep, answers, anyNumber, bookAdd, bookAnswers, bookBreaks, bookFree}
 use Rattle.manager.specs.Book.{bookPages, bookRead, bookReadLine, bookRefuses, bookRemove, bytesOf}
 use Rattle.manager.specs.Book.{contentPages, inBook, strikeLine, writeLine}
-use Rattle.manager.specs.Call.{Call, TwoByteId, add, breaks, check, free, read, remove}
+use Rattle.manager.specs.Call.{Call, TwoByteId, add, breaks, check, free, read, remove, replace}
 use Rattle.manager.specs.Conditions.{Outcome, beyond, condition, firstRefusal, outcome, replyUnless}
 use Rattle.manager.specs.Conditions.{unlessRefused, unpaged}
 use Rattle.manager.specs.Disk.{joinPages, pageCount, pagesOn}
@@ -127,7 +128,7 @@ module _ (v : Version) (room : Roomy v) (l : Layout) (s : Sound (v .heights) l) 
           (sym (bytes-of (take (bookPages o) (drop p (pagesOn d (f .pieces))))))
           (answered-claim v room l s d ld (read i p o) (pageCount o) (answers (bookPages o))
           (joinPages (take (pageCount o) (drop p (pagesOn d (f .pieces))))) refl
-          (λ j k z. let q : _≡_ {A = ℕ} 0 1 = cc in omega arith)
+          (λ j e. e)
           (λ j k m g z. absurd (let q : _≡_ {A = ℕ} 0 1 = cc in omega arith)))
 
       go : (t5 : Bool) → eqb i 0 ≡ t5 → (x : Found) → findFile i (l .files) ≡ x
@@ -159,7 +160,7 @@ module _ (v : Version) (room : Roomy v) (l : Layout) (s : Sound (v .heights) l) 
       go false e missing e6 = refused-claim v room l s d ld (breaks i) 6
       go false e (found f) e6 =
           answered-claim v room l s d ld (breaks i) (breaksOf (f .pieces)) anyNumber [] tt
-          (λ j k z. let q : _≡_ {A = ℕ} 0 1 = cc in omega arith)
+          (λ j e. e)
           (λ j k m g z r w q.
           (let same-id : i ≡ j = cc in
           let same = same-file v room l s d ld i m g f w (ap (λ t. findFile t (m .files)) same-id ∙ q) e6 in
@@ -169,7 +170,7 @@ module _ (v : Version) (room : Roomy v) (l : Layout) (s : Sound (v .heights) l) 
   free-agrees =
       subst (λ r. Claim free (outcome r cat d []) (bookAnswers (bookFree b) b [])) (sym (free-on-sound v room l s))
       (answered-claim v room l s d ld free (freeBlocks l) (answers (bookFree b)) [] (sym (book-free d l))
-      (λ j k z. let q : _≡_ {A = ℕ} 0 1 = cc in omega arith)
+      (λ j e. e)
       (λ j k m g z. absurd (let q : _≡_ {A = ℕ} 0 1 = cc in omega arith)))
 
   check-agrees : Claim check (outcome (checkReply cat d) cat d []) (bookAnswers (l .blocks) b [])
@@ -177,13 +178,14 @@ module _ (v : Version) (room : Roomy v) (l : Layout) (s : Sound (v .heights) l) 
       subst (λ r. Claim check (outcome r cat d []) (bookAnswers (l .blocks) b []))
       (sym (check-on-sound v room l s d ld))
       (answered-claim v room l s d ld check (l .blocks) (answers (l .blocks)) [] refl
-      (λ j k z. let q : _≡_ {A = ℕ} 0 1 = cc in omega arith)
+      (λ j e. e)
       (λ j k m g z. absurd (let q : _≡_ {A = ℕ} 0 1 = cc in omega arith)))
 
   -- every call
   pub call-agrees : (c : Call) → TwoByteId c → Claim c (perform c cat d) (inBook c b)
   call-agrees (add i bs) most = add-agrees i bs most
   call-agrees (remove i) _ = remove-agrees i
+  call-agrees (replace i bs) _ = replace-agrees v room l s d ld i bs
   call-agrees (read i p o) _ = read-agrees i p o
   call-agrees (breaks i) _ = breaks-agrees i
   call-agrees free _ = free-agrees

@@ -5,14 +5,15 @@ use mathlib.Core.Path.{_≡_, refl}
 use Prim.Native.Nat.{ℕ}
 use Rattle.catalogue.specs.Encoding.{encode}
 use Rattle.catalogue.specs.Reading.{readCatalogue}
+use Rattle.catalogue.specs.Version.{versionOf}
 use Rattle.catalogue.specs.declared.Version.{Version}
 use Rattle.layout.specs.Layout.{freshLayout}
 use Rattle.manager.specs.Conditions.{addConditions, answered, breaksConditions, checkConditions, firstRefusal}
 use Rattle.manager.specs.Conditions.{formatConditions, freeConditions, outcome, readConditions}
-use Rattle.manager.specs.Conditions.{removeConditions, replyUnless, unlessRefused}
+use Rattle.manager.specs.Conditions.{removeConditions, replaceConditions, replyUnless, unlessRefused}
 use Rattle.manager.specs.Disk.{pageCount}
 use Rattle.manager.specs.Outcomes.{addIn, breaksIn, checkIn, doAdd, doBreaks, doCheck, doFree, doRead}
-use Rattle.manager.specs.Outcomes.{doRemove, formatIn, freeIn, readIn, removeIn}
+use Rattle.manager.specs.Outcomes.{doRemove, formatIn, freeIn, readIn, removeIn, removeThenAdd, replaceOutcome}
 use Rattle.section.specs.Limits.{heightCount}
 
 module _ (v : Version) (cat : List ℕ) where
@@ -56,3 +57,10 @@ module _ (v : Version) (cat : List ℕ) where
       → checkIn v cat d ≡ replyUnless (firstRefusal (checkConditions v cat d)) (doCheck (readCatalogue v cat))
   unfolding checkIn
   checkIn-is d = refl
+
+pub replaceOutcome-is : (cat : List ℕ) (i : ℕ) (bs d : List ℕ)
+    → replaceOutcome i bs cat d
+    ≡ unlessRefused (firstRefusal (replaceConditions (versionOf cat) i bs cat d)) cat d []
+    (removeThenAdd i bs cat d)
+unfolding replaceOutcome
+replaceOutcome-is cat i bs d = refl

@@ -1,12 +1,13 @@
--- A catalogue in the words of the versions: whether its length is that of one, and which layout it is of. Assumes
+-- A catalogue in the words of the versions: whether its length is that of one, and which one layout it is of. Assumes
 -- nothing.
 use mathlib.Core.List.{List}
-use mathlib.Core.Path.{_∙_, _≡_, ap, sym}
+use mathlib.Core.Path.{_∙_, _≡_, ap, subst, sym}
 use Prim.Native.Nat.{ℕ}
 use native.Mathlib.Omega.{arith}
 use lib.ListN.{length}
 use Rattle.catalogue.proofs.Roomy.{roomy, version-of-one}
-use Rattle.catalogue.proofs.Versions.{reading-any}
+use Rattle.catalogue.proofs.Size.{encode-bytes}
+use Rattle.catalogue.proofs.Versions.{encoded-once, reading-any}
 use Rattle.catalogue.specs.Encoding.{Bytes}
 use Rattle.catalogue.specs.Reading.{readCatalogue, sound, unsound}
 use Rattle.catalogue.specs.Version.{versionFor, versionOf}
@@ -31,6 +32,16 @@ module _ (cat : List ℕ) (bytes : Bytes cat) (n : length cat ≡ versionOf cat 
       let s = reading-any cat l bytes .1 (h .version, h .known, h .encoded, h .rules) .1 in
       let z : _≡_ {A = ℕ} 0 1 = cc in
       omega arith
+
+module _ {cat : List ℕ} {l : Layout} (h : CatalogueOf cat l) where
+  pub encoded-bytes : Bytes cat
+  encoded-bytes = subst Bytes (sym (h .encoded)) (encode-bytes (h .version) l)
+
+  -- it is the catalogue of no other layout
+  pub one-layout : (m : Layout) → CatalogueOf cat m → m ≡ l
+  one-layout m k =
+      encoded-once (k .version) (h .version) (roomy (k .known)) (roomy (h .known)) m l (k .rules) (h .rules)
+      (sym (k .encoded) ∙ h .encoded) .1
 
 -- the length is no version's exactly if it is not that of the one version that it picks
 pub decides-length : (cat : List ℕ) → Decides (NoVersion cat) (wrongCatalogue (versionOf cat) cat)

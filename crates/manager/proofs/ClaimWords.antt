@@ -1,20 +1,18 @@
 -- What the words of the claim mean, from its own definitions and from any proof of it: a weaker claim proves less than
 -- this. Assumes nothing.
 use mathlib.Core.List.{List, [], _∷_}
-use mathlib.Core.Logic.{_↔_, _⊎_, inl, inr}
+use mathlib.Core.Logic.{_↔_, inl, inr}
 use mathlib.Core.Path.{_≡_, ap, refl, subst}
 use Prim.Native.Nat.{_*_, _-_, _<_, _≤_, ℕ}
 use native.Mathlib.Omega.{arith}
 use lib.ListN.{length}
 use Rattle.catalogue.specs.Version.{here, later, version1, version2}
 use Rattle.catalogue.specs.declared.Version.{Version}
-use Rattle.layout.specs.Carries.{carries}
 use Rattle.layout.specs.Layout.{File, Layout, breaksOf, findFile, found}
-use Rattle.layout.specs.Removing.{copiesOf, removal}
-use Rattle.manager.specs.Book.{Book, BookReply, Line, answers, anyNumber, inBook, line, lineWith}
-use Rattle.manager.specs.Book.{pagesInLines, refuses}
-use Rattle.manager.specs.Call.{Call, ListedCall, TwoByteId, add, breaks, check, free, read, remove}
-use Rattle.manager.specs.Claimed.{Claimed}
+use Rattle.manager.specs.Book.{Book, BookReply, answers, anyNumber, inBook}
+use Rattle.manager.specs.Book.{refuses}
+use Rattle.manager.specs.Call.{Call, ListedCall, TwoByteId, add, breaks, check, free, read, remove, replace}
+use Rattle.manager.specs.Claimed.{Changing, Claimed, CopiesClaimed}
 use Rattle.manager.specs.Conditions.{Reply, answered, refused}
 use Rattle.manager.specs.Outcomes.{perform}
 use Rattle.manager.specs.Table.{CatalogueOf, idOf}
@@ -43,13 +41,15 @@ pub answers-alike : (r : Reply) (n : ℕ) → RepliesAgree r (answers n) → r �
 answers-alike (answered m) n e = ap answered e
 answers-alike (refused m) n e = absurd e
 
--- what alters anything is an add or a removal that is not refused
-pub alters-only : (c : Call) (r : Reply) → Alters c r
-    → ((n : ℕ) → r ≡ refused n → ⊥) × (((i : ℕ) × (bs : List ℕ) × (c ≡ add i bs)) ⊎ ((i : ℕ) × (c ≡ remove i)))
+-- what alters anything is an add, a removal or a replacement that is not refused
+pub alters-only : (c : Call) (r : Reply) → Alters c r → ((n : ℕ) → r ≡ refused n → ⊥) × Changing c
 alters-only (add i bs) (answered m) a = (λ n p. (let z : _≡_ {A = ℕ} 0 1 = cc in omega arith), inl (i, bs, refl))
 alters-only (add i bs) (refused m) a = absurd a
-alters-only (remove i) (answered m) a = (λ n p. (let z : _≡_ {A = ℕ} 0 1 = cc in omega arith), inr (i, refl))
+alters-only (remove i) (answered m) a = (λ n p. (let z : _≡_ {A = ℕ} 0 1 = cc in omega arith), inr (inl (i, refl)))
 alters-only (remove i) (refused m) a = absurd a
+alters-only (replace i bs) (answered m) a =
+    (λ n p. (let z : _≡_ {A = ℕ} 0 1 = cc in omega arith), inr (inr (i, bs, refl)))
+alters-only (replace i bs) (refused m) a = absurd a
 alters-only (read i p o) r a = absurd a
 alters-only (breaks i) r a = absurd a
 alters-only free r a = absurd a
@@ -64,6 +64,7 @@ every-call-listed c p = record { call = c; two-bytes = go c p }
     go : (c : Call) → idOf c < 65536 → TwoByteId c
     go (add i bs) p = omega arith
     go (remove i) p = tt
+    go (replace i bs) p = tt
     go (read i q o) p = tt
     go (breaks i) p = tt
     go free p = tt
@@ -90,33 +91,25 @@ claim-reaches-large w c some most cat d lc ld =
 -- ---- all of it, in the words of document 01
 
 -- what is claimed of a call: refusals and answers are the book's, the whole output is, and a call that is refused or
--- is no add or removal leaves catalogue, disk and book
+-- is no add, removal or replacement leaves catalogue, disk and book
 pub call-claims : (c : Call) (cat d : List ℕ) (b : Book) → CallAgrees c cat d b
     → ((n : ℕ) → (perform c cat d .reply ≡ refused n) ↔ (inBook c b .reply ≡ refuses n))
     × ((n : ℕ) → inBook c b .reply ≡ answers n → perform c cat d .reply ≡ answered n)
     × (perform c cat d .output ≡ inBook c b .output)
-    × (((i : ℕ) (bs : List ℕ) → c ≡ add i bs → (n : ℕ) × (perform c cat d .reply ≡ refused n))
-    → ((i : ℕ) → c ≡ remove i → (n : ℕ) × (perform c cat d .reply ≡ refused n))
+    × ((Changing c → (n : ℕ) × (perform c cat d .reply ≡ refused n))
     → (perform c cat d .catalogue ≡ cat) × (perform c cat d .disk ≡ d) × (inBook c b .book ≡ b))
 call-claims c cat d b a = (
   refuses-exactly (perform c cat d .reply) (inBook c b .reply) (a .reply),
   λ n e. answers-alike (perform c cat d .reply) n (subst (RepliesAgree (perform c cat d .reply)) e (a .reply)),
   a .output,
-  λ adds removes. (
-    a .catalogue-kept (λ x. kept adds removes x),
-    a .disk-kept (λ x. kept adds removes x),
-    a .book-kept (λ x. kept adds removes x),
-  ),
+  λ changes. (a .catalogue-kept (kept changes), a .disk-kept (kept changes), a .book-kept (kept changes)),
 )
   where
-    kept : ((i : ℕ) (bs : List ℕ) → c ≡ add i bs → (n : ℕ) × (perform c cat d .reply ≡ refused n))
-        → ((i : ℕ) → c ≡ remove i → (n : ℕ) × (perform c cat d .reply ≡ refused n))
-        → Alters c (perform c cat d .reply) → ⊥
-    kept adds removes x = go (alters-only c (perform c cat d .reply) x .1)
-      where
-        go : ((i : ℕ) × (bs : List ℕ) × (c ≡ add i bs)) ⊎ ((i : ℕ) × (c ≡ remove i)) → ⊥
-        go (inl (i, bs, e)) = let r = adds i bs e in alters-only c (perform c cat d .reply) x .0 (r .0) (r .1)
-        go (inr (i, e)) = let r = removes i e in alters-only c (perform c cat d .reply) x .0 (r .0) (r .1)
+    kept : (Changing c → (n : ℕ) × (perform c cat d .reply ≡ refused n)) → Alters c (perform c cat d .reply) → ⊥
+    kept changes x =
+        let only = alters-only c (perform c cat d .reply) x in
+        let r = changes (only .1) in
+        only .0 (r .0) (r .1)
 
 -- it is claimed of each call of a list, on what the one before it left, and the rest of what is left by the last
 pub each-call-claimed : (v : Version) (c : ListedCall) (cs : List ListedCall) (cat d : List ℕ) (b : Book)
@@ -130,12 +123,13 @@ end-claimed v cat d b f = f
 
 -- an answered removal: its copies are those of the definition, and at most the carries of f + n over the 21 heights
 pub removal-claims : (i k : ℕ) (cat d : List ℕ) (b : Book) → CallAgrees (remove i) cat d b
-    → perform (remove i) cat d .reply ≡ answered k
-    → ((l : Layout) (f : File) → CatalogueOf cat l → findFile i (l .files) ≡ found f
-    → k ≡ length (copiesOf (removal 21 f l)))
-    × ((x : Line) → lineWith i (b .lines) ≡ line x
-    → k ≤ carries 21 (b .blocks - pagesInLines (b .lines)) (length (x .pages)))
+    → perform (remove i) cat d .reply ≡ answered k → CopiesClaimed i k cat b
 removal-claims i k cat d b a e = (λ l f. a .copies i k l f refl e, λ x. a .limit i k x refl e)
+
+-- and so are those of an answered replacement, n being that of the file that goes
+pub replacement-claims : (i k : ℕ) (bs cat d : List ℕ) (b : Book) → CallAgrees (replace i bs) cat d b
+    → perform (replace i bs) cat d .reply ≡ answered k → CopiesClaimed i k cat b
+replacement-claims i k bs cat d b a e = (λ l f. a .copies i k l f refl e, λ x. a .limit i k x refl e)
 
 -- answered breaks: the pieces of the file in the catalogue less one
 pub breaks-claims : (i k : ℕ) (cat d : List ℕ) (b : Book) → CallAgrees (breaks i) cat d b

@@ -6,21 +6,15 @@ use Prim.Native.Nat.{_%_, _-_, _/_, _<_, _^_, ℕ}
 use native.Mathlib.Omega.{arith}
 use lib.ListN.{length}
 use Rattle.catalogue.specs.declared.Version.{Version}
-use Rattle.layout.proofs.Finding.{found-find}
+use Rattle.layout.proofs.Finding.{find-file, found-find}
 use Rattle.layout.specs.Layout.{File, Found, OnePiecePerOne, allPieces, fileBlocks, findFile, found, holdsBlock}
 use Rattle.layout.specs.Layout.{missing, ofHeight}
-use Rattle.layout.specs.Lists.{Each, more, sumOf}
+use Rattle.layout.specs.Lists.{sumOf}
 use Rattle.manager.proofs.Lines.{line-with, lineFound, pages-length}
 use Rattle.manager.specs.Book.{Book, Line, line, lineWith, pagesInLines}
 use Rattle.manager.specs.Disk.{pagesOn}
 use Rattle.manager.specs.Table.{CatalogueOf}
 use Rattle.manager.specs.WholeList.{Afterwards, lineOn}
-use Rattle.layout.specs.Removals.{Find, here, there}
-
--- what every file has, the file of an id has
-found-has : {P : File → Type 0} {i : ℕ} {l r : List File} {f : File} → Find i l f r → Each P l → P f
-found-has (here e) (more p x) = p
-found-has (there n w) (more p x) = found-has w x
 
 module _ (v : Version) (cat d : List ℕ) (b : Book) (a : Afterwards v cat d b) where
   -- each line has a file of its id, whose blocks hold the line's pages in page order, as many as the line has, in one
@@ -40,7 +34,7 @@ module _ (v : Version) (cat d : List ℕ) (b : Book) (a : Afterwards v cat d b) 
           let same : lineOn d f ≡ x = cc in
           let pages : pagesOn d (f .pieces) ≡ x .pages = ap (λ (y : Line). y .pages) same in
           let count : fileBlocks f ≡ length (x .pages) = sym (pages-length d (f .pieces)) ∙ ap length pages in
-          let ones = found-has (found-find i (a .layout .files) f q .1) (a .file-pieces) in
+          let ones = find-file (found-find i (a .layout .files) f q .1) (a .file-pieces) in
           (f, q, pages, count, subst (λ n. OnePiecePerOne n (f .pieces)) count ones)
 
   -- of each height there is a free piece exactly if C less the pages in all lines has a 1 there

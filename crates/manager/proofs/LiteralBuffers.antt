@@ -1,103 +1,59 @@
 -- The refusals 1 to 4 of the calls by literal numbers: a catalogue of 4,096 or of 16,384 bytes, a disk of 512 bytes
 -- for each of 1 to 4,096 or to 1,048,576 blocks for format, and for each block of the catalogue's layout for other
 -- calls, no byte less and no byte more. Assumes nothing.
-use mathlib.Core.List.{List}
+use mathlib.Core.Bool.{true}
+use mathlib.Core.List.{List, [], _∷_}
 use mathlib.Core.Logic.{_⊎_, inl, inr}
-use mathlib.Core.Path.{_∙_, _≡_, refl, subst, sym}
-use Prim.Native.Nat.{_*_, _<_, _≤_, suc, ℕ}
-use native.Mathlib.Decide.{ℕ-discrete}
-use native.Mathlib.Omega.{arith}
+use mathlib.Core.Path.{_≡_, ap, refl, subst, sym}
+use Prim.Native.Nat.{_*_, _≤_, ℕ}
 use lib.ListN.{length}
 use Rattle.catalogue.proofs.Roomy.{roomy}
-use Rattle.catalogue.proofs.Size.{encode-bytes, encode-length}
-use Rattle.catalogue.proofs.Versions.{encoded-once}
+use Rattle.catalogue.proofs.Size.{encode-length}
+use Rattle.catalogue.specs.Encoding.{Bytes}
 use Rattle.catalogue.specs.Version.{here, later, version1, version2}
 use Rattle.layout.specs.Layout.{Layout}
-use Rattle.manager.proofs.ConditionLists.{number-unique}
+use Rattle.layout.specs.Lists.{done, more}
+use Rattle.manager.proofs.Catalogues.{encoded-bytes, one-layout}
 use Rattle.manager.proofs.FormatLimits.{other-length}
 use Rattle.manager.proofs.FormatRefusals.{format-lowest-refusal}
-use Rattle.manager.proofs.LowestRefusal.{lowest-refusal}
-use Rattle.manager.specs.Call.{Call, add, breaks, check, free, read, remove}
+use Rattle.manager.proofs.GivenFirst.{Clear, coversBefore, gives-first}
+use Rattle.manager.specs.Call.{Call, add, breaks, check, free, read, remove, replace}
 use Rattle.manager.specs.Changes.{Gives}
 use Rattle.manager.specs.Conditions.{refused}
 use Rattle.manager.specs.Outcomes.{formatOutcome}
-use Rattle.manager.specs.Table.{By, CatalogueOf, GivenIf, Refusal, bufferLength, catalogueLength, diskLength}
-use Rattle.manager.specs.Table.{filesFull, formatDisk, idMissing, idThere, idZero, noSpace, notSound, numberOf}
-use Rattle.manager.specs.Table.{pastEnd}
-use Rattle.catalogue.specs.Encoding.{Bytes}
+use Rattle.manager.specs.Table.{By, CatalogueOf, GivenIf, Refusal, catalogueLength, diskLength, isListed}
+use Rattle.manager.specs.Table.{notSound, numbersOf}
 
-some-number : (r : Refusal) → 1 ≤ numberOf r
-some-number catalogueLength = omega arith
-some-number formatDisk = omega arith
-some-number notSound = omega arith
-some-number diskLength = omega arith
-some-number idZero = omega arith
-some-number idMissing = omega arith
-some-number idThere = omega arith
-some-number bufferLength = omega arith
-some-number pastEnd = omega arith
-some-number filesFull = omega arith
-some-number noSpace = omega arith
-
--- every call gives 1 and 3
-by-length : (c : Call) → By catalogueLength c
-by-length (add i bs) = refl
-by-length (remove i) = refl
-by-length (read i p o) = refl
-by-length (breaks i) = refl
-by-length free = refl
-by-length check = refl
-
-by-soundness : (c : Call) → By notSound c
-by-soundness (add i bs) = refl
-by-soundness (remove i) = refl
-by-soundness (read i p o) = refl
-by-soundness (breaks i) = refl
-by-soundness free = refl
-by-soundness check = refl
+-- every call checks 1 and 3 first
+begins : (c : Call) → (ns : List ℕ) × (numbersOf c ≡ 1 ∷ 3 ∷ ns)
+begins (add i bs) = (_, refl)
+begins (remove i) = (_, refl)
+begins (replace i bs) = (_, refl)
+begins (read i p o) = (_, refl)
+begins (breaks i) = (_, refl)
+begins free = (_, refl)
+begins check = (_, refl)
 
 -- ---- a call and its number
 
-module _ (cat d : List ℕ) (c : Call) where
-  -- no refusal below the number applies
-  abbrev pub ClearBelow : ℕ → Type 0
-  ClearBelow n = (q : Refusal) → numberOf q < n → By q c → GivenIf q c cat d → ⊥
+module _ (cat d : List ℕ) (c : Call) (bytes : Bytes cat) where
+  -- a catalogue that has neither 4,096 nor 16,384 bytes gives 1, whatever the call
+  pub other-length-refused : (length cat ≡ 4096 → ⊥) → (length cat ≡ 16384 → ⊥) → Gives cat d c 1
+  other-length-refused small large =
+      gives-first cat d c bytes catalogueLength (ap (isListed 1) (begins c .1))
+      (format-lowest-refusal cat d .catalogue-length .0 (other-length cat d small large)) done
+      (ap (coversBefore 1 []) (begins c .1))
 
-  clear-first : ClearBelow 1
-  clear-first q e = absurd (omega (arith, some-number q))
-
-  -- nor the next one
-  pub clear-next : (r : Refusal) → ClearBelow (numberOf r) → (By r c → GivenIf r c cat d → ⊥)
-      → ClearBelow (suc (numberOf r))
-  clear-next r clear apart q lower = go (ℕ-discrete (numberOf q) (numberOf r))
+  -- one of these lengths that is the catalogue of no sound layout gives 3, whatever the call
+  pub unsound-refused : (length cat ≡ 4096) ⊎ (length cat ≡ 16384) → ((l : Layout) → CatalogueOf cat l → ⊥)
+      → Gives cat d c 3
+  unsound-refused long none =
+      gives-first cat d c bytes notSound (ap (isListed 3) (begins c .1)) none
+      (more {a = catalogueLength} (known long) done) (ap (coversBefore 3 (catalogueLength ∷ [])) (begins c .1))
     where
-      go : Dec (numberOf q ≡ numberOf r) → By q c → GivenIf q c cat d → ⊥
-      go (yes e) = subst (λ x. By x c → GivenIf x c cat d → ⊥) (sym (number-unique q r e)) apart
-      go (no u) = clear q (omega (arith, u))
-
-  module _ (bytes : Bytes cat) where
-    -- a refusal that applies is given if none below it does
-    pub gives-lowest : (r : Refusal) → By r c → GivenIf r c cat d → ClearBelow (numberOf r)
-        → Gives cat d c (numberOf r)
-    gives-lowest r by given clear =
-        lowest-refusal c cat d bytes (numberOf r) .1 (r, refl, record { by = by; given = given; lowest = clear })
-
-    -- a catalogue that has neither 4,096 nor 16,384 bytes gives 1, whatever the call
-    pub other-length-refused : (length cat ≡ 4096 → ⊥) → (length cat ≡ 16384 → ⊥) → Gives cat d c 1
-    other-length-refused small large =
-        gives-lowest catalogueLength (by-length c)
-        (format-lowest-refusal cat d .catalogue-length .0 (other-length cat d small large)) clear-first
-
-    -- one of these lengths that is the catalogue of no sound layout gives 3, whatever the call
-    pub unsound-refused : (length cat ≡ 4096) ⊎ (length cat ≡ 16384) → ((l : Layout) → CatalogueOf cat l → ⊥)
-        → Gives cat d c 3
-    unsound-refused long none =
-        gives-lowest notSound (by-soundness c) none
-        (clear-next formatDisk (clear-next catalogueLength clear-first (λ _. known long)) (λ _ never. never))
-      where
-        known : (length cat ≡ 4096) ⊎ (length cat ≡ 16384) → GivenIf catalogueLength c cat d → ⊥
-        known (inl e) none-has = none-has version1 here e
-        known (inr e) none-has = none-has version2 (later here) e
+      known : (length cat ≡ 4096) ⊎ (length cat ≡ 16384) → GivenIf catalogueLength c cat d → ⊥
+      known (inl e) none-has = none-has version1 here e
+      known (inr e) none-has = none-has version2 (later here) e
 
 -- ---- format
 
@@ -116,23 +72,17 @@ module _ (cat d : List ℕ) where
 
 -- ---- the catalogue of a sound layout
 
+-- the refusals of the catalogue, and those of both buffers
+abbrev catalogueRefusals : List Refusal
+catalogueRefusals = notSound ∷ catalogueLength ∷ []
+
+abbrev pub bufferRefusals : List Refusal
+bufferRefusals = diskLength ∷ catalogueRefusals
+
 module _ {cat : List ℕ} {l : Layout} (h : CatalogueOf cat l) (d : List ℕ) where
-  pub encoded-bytes : Bytes cat
-  encoded-bytes = subst Bytes (sym (h .encoded)) (encode-bytes (h .version) l)
-
-  -- it is that of no other layout
-  pub one-layout : (m : Layout) → CatalogueOf cat m → m ≡ l
-  one-layout m k =
-      encoded-once (k .version) (h .version) (roomy (k .known)) (roomy (h .known)) m l (k .rules) (h .rules)
-      (sym (k .encoded) ∙ h .encoded) .1
-
   -- 1 and 3 do not apply
-  clear-sound : (c : Call) → ClearBelow cat d c 4
-  clear-sound c =
-      clear-next cat d c notSound
-      (clear-next cat d c formatDisk (clear-next cat d c catalogueLength (clear-first cat d c) (λ _. known))
-      (λ _ never. never))
-      (λ _ none. none l h)
+  clear-catalogue : (c : Call) → Clear cat d c catalogueRefusals
+  clear-catalogue c = more {a = notSound} (λ none. none l h) (more {a = catalogueLength} known done)
     where
       known : GivenIf catalogueLength c cat d → ⊥
       known none-has =
@@ -141,16 +91,25 @@ module _ {cat : List ℕ} {l : Layout} (h : CatalogueOf cat l) (d : List ℕ) wh
           (encode-length (h .version) (roomy (h .known)) l (h .rules)))
 
   -- nor 4 on a disk of 512 bytes for each block
-  pub clear-disk : length d ≡ 512 * l .blocks → (c : Call) → ClearBelow cat d c 5
-  clear-disk n c =
-      clear-next cat d c diskLength (clear-sound c)
-      (λ _ w. w .2 (subst (λ (m : Layout). length d ≡ 512 * m .blocks) (sym (one-layout (w .0) (w .1))) n))
+  pub clear-buffers : length d ≡ 512 * l .blocks → (c : Call) → Clear cat d c bufferRefusals
+  clear-buffers n c =
+      more {a = diskLength}
+      (λ w. w .2 (subst (λ (m : Layout). length d ≡ 512 * m .blocks) (sym (one-layout h (w .0) (w .1))) n))
+      (clear-catalogue c)
 
-  -- a disk of another length than 512 bytes for each block gives 4 from add, remove, read and check
+  -- a disk of another length than 512 bytes for each block gives 4 from add, remove, replace, read and check
   pub other-disk-refused : (length d ≡ 512 * l .blocks → ⊥) → (i p : ℕ) (bs o : List ℕ)
-      → Gives cat d (add i bs) 4 × Gives cat d (remove i) 4 × Gives cat d (read i p o) 4 × Gives cat d check 4
-  other-disk-refused other i p bs o =
-      (refuses (add i bs) refl, refuses (remove i) refl, refuses (read i p o) refl, refuses check refl)
+      → Gives cat d (add i bs) 4 × Gives cat d (remove i) 4 × Gives cat d (replace i bs) 4
+      × Gives cat d (read i p o) 4
+      × Gives cat d check 4
+  other-disk-refused other i p bs o = (
+    refuses (add i bs) refl refl,
+    refuses (remove i) refl refl,
+    refuses (replace i bs) refl refl,
+    refuses (read i p o) refl refl,
+    refuses check refl refl,
+  )
     where
-      refuses : (c : Call) → By diskLength c → Gives cat d c 4
-      refuses c by = gives-lowest cat d c encoded-bytes diskLength by (l, h, other) (clear-sound c)
+      refuses : (c : Call) → By diskLength c → coversBefore 4 catalogueRefusals (numbersOf c) ≡ true
+          → Gives cat d c 4
+      refuses c by = gives-first cat d c (encoded-bytes h) diskLength by (l, h, other) (clear-catalogue c)

@@ -1,6 +1,6 @@
 -- A list of calls on a disk of five blocks and every refusal, computed from literal bytes with the small catalogue, so
--- that the definitions are pinned within this crate. The table of all cases, in both versions, is the crate
--- `case_table`. Assumes nothing.
+-- that the definitions are pinned within this crate; replacements are in `LiteralReplacements`. The table of all
+-- cases, in both versions, is the crate `case_table`. Assumes nothing.
 use mathlib.Core.List.{List, [], _++_, _∷_, map}
 use mathlib.Core.Path.{_≡_, refl}
 use Prim.Native.Nat.{_-_, suc, zero, ℕ}
@@ -16,34 +16,35 @@ use Rattle.layout.specs.Layout.{blockRun, blocksOf, breaksOf, filePieces, findF
 use Rattle.layout.specs.Lists.{insertBy, sortBy}
 use Rattle.layout.specs.Removing.{buddyPair, copiesFrom, copiesOf, copyRun, insertAll, layoutAfter, lowestTwo, merge}
 use Rattle.layout.specs.Removing.{mergeAll, mergePair, nextMerge, release, removal, withoutFile}
-use Rattle.manager.specs.Call.{Call, add, breaks, check, free, read, remove}
+use Rattle.manager.specs.Call.{Call, add, breaks, check, free, read, remove, replace}
 use Rattle.manager.specs.Conditions.{Outcome, answered, firstRefusal, outcome, refused}
 use Rattle.manager.specs.Disk.{cutPages, joinPages, pagesOn, runCopies, writePages}
 use Rattle.manager.specs.Outcomes.{addIn, breaksIn, checkIn, formatIn, formatOutcome, freeIn, perform, readIn}
-use Rattle.manager.specs.Outcomes.{removeIn}
+use Rattle.manager.specs.Outcomes.{removeIn, replaceOutcome}
+use Rattle.quality.specs.Letters.{firstLetter, rankOf}
 use Rattle.section.specs.Heights.{heightOf}
 use Rattle.section.specs.Sections.{buddyFirst, isAligned, isInside, isOnDisk, movedInto, parentFirst, sharesBlock}
 
 -- a call; who unfolds this unfolds every definition that computing a call takes
-unfoldable computed : Call → List ℕ → List ℕ → Outcome
+unfoldable pub computed : Call → List ℕ → List ℕ → Outcome
 unfolding onesIn ones buddyFirst parentFirst isAligned isOnDisk sharesBlock isInside movedInto takeFirst takePiece
     allocate filePieces blockRun blocksOf breaksOf findFile inRange piecesFrom freshLayout insertBy sortBy copyRun
     copiesFrom buddyPair lowestTwo mergePair merge nextMerge mergeAll copiesOf layoutAfter insertAll withoutFile
     release removal bigEndian pairBytes pairsBytes entryBytes entriesBytes headerBytes usedBytes encode every pairwise
     isSound readFrom readPair readPairs fileRead readEntry readEntries readHeader readLayout judged readCatalogue
     pagesOn cutPages joinPages writePages runCopies firstRefusal formatIn addIn removeIn readIn breaksIn freeIn
-    checkIn versionFor heightOf
+    checkIn replaceOutcome versionFor heightOf firstLetter rankOf
 computed c cat d = perform c cat d
 
 -- ---- buffers
 
 -- a block for each byte, filled with it
-abbrev blocks : List ℕ → List ℕ
+abbrev pub blocks : List ℕ → List ℕ
 blocks [] = []
 blocks (x ∷ l) = replicate 512 x ++ blocks l
 
 -- a catalogue of n bytes: the used ones, and zero bytes to the end
-abbrev bytes : ℕ → List ℕ → List ℕ
+abbrev pub bytes : ℕ → List ℕ → List ℕ
 bytes n used = used ++ replicate (n - length used) 0
 
 -- five blocks, free (0,4) (4,1)
@@ -55,7 +56,7 @@ abbrev withOne : List ℕ
 withOne = 0 ∷ 1 ∷ 0 ∷ 5 ∷ 0 ∷ 1 ∷ 0 ∷ 1 ∷ 0 ∷ 1 ∷ 0 ∷ 4 ∷ 0 ∷ 1 ∷ 0 ∷ 0 ∷ 0 ∷ 4 ∷ []
 
 -- id 1 at (4,1), id 65,535 at (0,2) (2,1), free (3,1)
-abbrev withTwo : List ℕ
+abbrev pub withTwo : List ℕ
 withTwo =
     0 ∷ 1 ∷ 0 ∷ 5 ∷ 0 ∷ 2 ∷ 0 ∷ 1 ∷ 0 ∷ 1 ∷ 0 ∷ 4 ∷ 0 ∷ 1 ∷ 255 ∷ 255 ∷ 0 ∷ 3 ∷ 0 ∷ 0 ∷ 0 ∷ 2 ∷ 0 ∷ 2 ∷ 0 ∷ 1
     ∷ 0 ∷ 3 ∷ 0 ∷ 1 ∷ []
@@ -69,7 +70,7 @@ afterRemoval =
 abbrev untouched : List ℕ
 untouched = blocks (255 ∷ 255 ∷ 255 ∷ 255 ∷ 255 ∷ [])
 
-abbrev written : List ℕ
+abbrev pub written : List ℕ
 written = blocks (32 ∷ 33 ∷ 34 ∷ 255 ∷ 16 ∷ [])
 
 -- ---- a list of calls
@@ -122,24 +123,26 @@ removal-computed = refl
 abbrev lent : Call → List ℕ
 lent (add i bs) = []
 lent (remove i) = []
+lent (replace i bs) = []
 lent (read i p o) = o
 lent (breaks i) = []
 lent free = []
 lent check = []
 
 -- these calls give the number, and leave all buffers
-abbrev Refuses : List ℕ → List ℕ → ℕ → List Call → Type 0
+abbrev pub Refuses : List ℕ → List ℕ → ℕ → List Call → Type 0
 Refuses cat d n calls = map (λ c. perform c cat d) calls ≡ map (λ c. outcome (refused n) cat d (lent c)) calls
 
--- a call of each kind that is answered on the right buffers; of those the ones that get the disk; and such with id 0
-abbrev plain : List Call
-plain = add 3 (replicate 512 0) ∷ remove 1 ∷ read 65535 0 (replicate 512 0) ∷ breaks 65535 ∷ free ∷ check ∷ []
-
+-- a call of each kind that gets the disk and is answered on the right buffers; of every kind; and such with id 0
 abbrev onDisk : List Call
-onDisk = add 3 (replicate 512 0) ∷ remove 1 ∷ read 65535 0 (replicate 512 0) ∷ check ∷ []
+onDisk =
+    add 3 (replicate 512 0) ∷ remove 1 ∷ replace 1 (replicate 512 82) ∷ read 65535 0 (replicate 512 0) ∷ check ∷ []
+
+abbrev plain : List Call
+plain = breaks 65535 ∷ free ∷ onDisk
 
 abbrev zeros : List Call
-zeros = add 0 [] ∷ remove 0 ∷ read 0 0 [] ∷ []
+zeros = add 0 [] ∷ remove 0 ∷ replace 0 [] ∷ read 0 0 [] ∷ []
 
 -- catalogues of 4,095 and 4,097 bytes; one with a byte after its end; disks one byte shorter and longer than five
 -- blocks; and the lowest number where more than one applies
@@ -168,7 +171,7 @@ unfolding computed
 arguments-refused = (refl, refl, refl, refl, refl, refl)
 
 -- the entries of n files of one block: id i + 1 at block i, and so on
-abbrev entries : ℕ → ℕ → List ℕ
+abbrev pub entries : ℕ → ℕ → List ℕ
 entries i zero = []
 entries i (suc n) = 0 ∷ suc i ∷ 0 ∷ 1 ∷ 0 ∷ i ∷ 0 ∷ 1 ∷ entries (suc i) n
 

@@ -1,162 +1,55 @@
--- A call is refused with a number exactly if that is the number of the lowest refusal of the table that applies and
--- that the call may give. Assumes nothing.
-use mathlib.Core.List.{List, []}
+-- A call whose checks go by rising number is refused with a number exactly if that is the number of the lowest refusal
+-- of the table that applies and that the call may give; and every call but a replacement is such a call.
+-- Assumes nothing.
+use mathlib.Core.List.{List}
 use mathlib.Core.Logic.{_↔_}
-use mathlib.Core.Path.{_∙_, _≡_, ap, refl, sym}
-use Prim.Native.Nat.{_<_, ℕ}
+use mathlib.Core.Path.{_≡_, refl}
+use Prim.Native.Nat.{ℕ}
 use native.Mathlib.Omega.{arith}
-use lib.ListN.{length}
-use Rattle.catalogue.proofs.Roomy.{roomy}
 use Rattle.catalogue.specs.Encoding.{Bytes}
-use Rattle.catalogue.specs.Reading.{Reading, readCatalogue, sound, unsound}
-use Rattle.catalogue.specs.Version.{versionOf}
-use Rattle.layout.proofs.Added.{allocate-fits}
-use Rattle.layout.proofs.Finding.{missing-none}
-use Rattle.layout.specs.Adding.{Allocated, allocate, allocated, tooFew}
-use Rattle.layout.specs.Layout.{File, Found, Layout, breaksOf, findFile, found, freeBlocks, isFound, missing}
-use Rattle.layout.specs.Removing.{copiesOf, removal}
-use Rattle.manager.proofs.CallEquations.{addIn-is, breaksIn-is, checkIn-is, freeIn-is, readIn-is, removeIn-is}
-use Rattle.manager.proofs.ConditionLists.{Judges, LowestOf, NoneOf, Right}
-use Rattle.manager.proofs.Deciding.{equal-if-never-unequal}
-use Rattle.manager.proofs.Refusals.{answered-not-refused}
-use Rattle.manager.proofs.Catalogues.{decides-length, read-catalogue, unread-catalogue}
-use Rattle.manager.proofs.TableRows.{GivenTo, call-judged, conditionsOf}
-use Rattle.manager.specs.Call.{Call, add, breaks, check, free, read, remove}
-use Rattle.manager.specs.Conditions.{Judgement, Outcome, Reply, addConditions, allowed, firstRefusal}
-use Rattle.manager.specs.Conditions.{readConditions, refusal, refused, removeConditions, replyUnless}
-use Rattle.manager.specs.Conditions.{unlessRefused}
-use Rattle.manager.specs.Disk.{pageCount}
-use Rattle.manager.specs.Outcomes.{addPieces, breaksFound, doAdd}
-use Rattle.manager.specs.Outcomes.{doBreaks, doCheck, doFree, doRead, doRemove, perform, readFound}
-use Rattle.manager.specs.Outcomes.{removeFound}
-use Rattle.manager.specs.Table.{By, CatalogueOf, Lowest, Refusal, catalogueLength, idMissing, idOf, noSpace}
-use Rattle.manager.specs.Table.{notSound, numberOf, numbersOf}
-use Rattle.section.specs.Limits.{heightCount}
-use Rattle.manager.proofs.AllHeights.{all-heights}
-use borrow.Author.Tests.{ne-eqb}
-use mathlib.Core.Bool.{not}
+use Rattle.manager.proofs.FirstRefusal.{first-refusal}
+use Rattle.manager.proofs.NumberPlaces.{before-lower, lower-before}
+use Rattle.manager.specs.Call.{Call, add, breaks, check, free, read, remove, replace}
+use Rattle.manager.specs.Conditions.{refused}
+use Rattle.manager.specs.Outcomes.{perform}
+use Rattle.manager.specs.Table.{First, InNumberOrder, Lowest, Refusal, numberOf, numbersOf}
 
--- the reply of a call that nothing refuses
-abbrev pub replyOf : Call → List ℕ → List ℕ → Reading → Reply
-replyOf (add i bs) cat d x = doAdd (versionOf cat) i bs cat d x .reply
-replyOf (remove i) cat d x = doRemove (versionOf cat) i cat d x .reply
-replyOf (read i p o) cat d x = doRead i p o cat d x .reply
-replyOf (breaks i) cat d x = doBreaks i x
-replyOf free cat d x = doFree x
-replyOf check cat d x = doCheck x
+-- every call but a replacement checks by rising number
+pub in-number-order : (c : Call) → ((i : ℕ) (bs : List ℕ) → c ≡ replace i bs → ⊥) → InNumberOrder c
+in-number-order (add i bs) other = refl
+in-number-order (remove i) other = refl
+in-number-order (replace i bs) other = absurd (other i bs refl)
+in-number-order (read i p o) other = refl
+in-number-order (breaks i) other = refl
+in-number-order free other = refl
+in-number-order check other = refl
 
-unless-reply : (j : Judgement) (cat d o : List ℕ) (x : Outcome)
-    → unlessRefused j cat d o x .reply ≡ replyUnless j (x .reply)
-unless-reply allowed cat d o x = refl
-unless-reply (refusal n) cat d o x = refl
+-- and a replacement does not
+pub replacement-order : (i : ℕ) (bs : List ℕ) → InNumberOrder (replace i bs) → ⊥
+replacement-order i bs e = let z : _≡_ {A = ℕ} 0 1 = cc in omega arith
 
--- the reply is the first refusal, or what is replied if there is none
-pub reply-is : (c : Call) (cat d : List ℕ)
-    → perform c cat d .reply
-    ≡ replyUnless (firstRefusal (conditionsOf c cat d)) (replyOf c cat d (readCatalogue (versionOf cat) cat))
-reply-is (add i bs) cat d =
-    ap (λ (x : Outcome). x .reply) (addIn-is (versionOf cat) cat i bs d)
-    ∙ unless-reply (firstRefusal (addConditions (versionOf cat) i bs cat d)) cat d []
-    (doAdd (versionOf cat) i bs cat d (readCatalogue (versionOf cat) cat))
-reply-is (remove i) cat d =
-    ap (λ (x : Outcome). x .reply) (removeIn-is (versionOf cat) cat i d)
-    ∙ unless-reply (firstRefusal (removeConditions (versionOf cat) i cat d)) cat d []
-    (doRemove (versionOf cat) i cat d (readCatalogue (versionOf cat) cat))
-reply-is (read i p o) cat d =
-    ap (λ (x : Outcome). x .reply) (readIn-is (versionOf cat) cat i p o d)
-    ∙ unless-reply (firstRefusal (readConditions (versionOf cat) i p o cat d)) cat d o
-    (doRead i p o cat d (readCatalogue (versionOf cat) cat))
-reply-is (breaks i) cat d = breaksIn-is (versionOf cat) cat i
-reply-is free cat d = freeIn-is (versionOf cat) cat
-reply-is check cat d = checkIn-is (versionOf cat) cat d
+module _ (c : Call) (cat d : List ℕ) (rising : InNumberOrder c) where
+  -- then the first refusal that applies is the lowest
+  first-lowest : (r : Refusal) → First c cat d r → Lowest c cat d r
+  first-lowest r s = record {
+    by = s .by;
+    given = s .given;
+    lowest = λ q lower by.
+        s .first q (lower-before (numbersOf c) rising (numberOf q) (numberOf r) by (s .by) lower) by;
+  }
 
-module _ (cat d : List ℕ) (bytes : Bytes cat) where
-  -- no refusal of the table applies
-  abbrev NoneGiven : Call → Type 0
-  NoneGiven c = NoneOf (GivenTo c cat d) (numbersOf c)
+  lowest-first : (r : Refusal) → Lowest c cat d r → First c cat d r
+  lowest-first r s = record {
+    by = s .by;
+    given = s .given;
+    first = λ q before by.
+        s .lowest q (before-lower (numbersOf c) rising (numberOf q) (numberOf r) by (s .by) before) by;
+  }
 
-  -- then the catalogue is that of a layout
-  layout-read : (c : Call) (n : ℕ) → NoneGiven c → By catalogueLength c → By notSound c
-      → ((l : Layout) → CatalogueOf cat l → replyOf c cat d (sound l) ≡ refused n → ⊥)
-      → replyOf c cat d (readCatalogue (versionOf cat) cat) ≡ refused n → ⊥
-  layout-read c n clear by-length by-soundness k = go (readCatalogue (versionOf cat) cat) refl
-    where
-      right-length : length cat ≡ versionOf cat .bytes
-      right-length = equal-if-never-unequal (length cat) (versionOf cat .bytes)
-          (λ no. clear catalogueLength by-length (decides-length cat .holds
-          (ap not (ne-eqb (length cat) (versionOf cat .bytes) no))))
-
-      go : (x : Reading) → readCatalogue (versionOf cat) cat ≡ x → replyOf c cat d x ≡ refused n → ⊥
-      go (sound l) e = k l (read-catalogue cat bytes right-length l e)
-      go unsound e = λ _. clear notSound by-soundness (unread-catalogue cat bytes right-length e)
-
-  -- and the file is found
-  file-found : (c : Call) (l : Layout) (n : ℕ) (reply : Found → Reply) → NoneGiven c → By idMissing c
-      → CatalogueOf cat l
-      → ((f : File) → reply (found f) ≡ refused n → ⊥) → reply (findFile (idOf c) (l .files)) ≡ refused n → ⊥
-  file-found c l n reply clear by h k = go (findFile (idOf c) (l .files)) refl
-    where
-      go : (x : Found) → findFile (idOf c) (l .files) ≡ x → reply x ≡ refused n → ⊥
-      go (found f) e = k f
-      go missing e = λ _. clear idMissing by (l, h, missing-none (idOf c) (l .files) (ap isFound e))
-
-  -- a call that no refusal applies to is answered
-  answers : (c : Call) → NoneGiven c → (n : ℕ) → replyOf c cat d (readCatalogue (versionOf cat) cat) ≡ refused n → ⊥
-  answers (add i bs) clear n =
-      layout-read (add i bs) n clear refl refl λ l h. go l h (allocate 0 heightCount (pageCount bs) (l .free)) refl
-    where
-      go : (l : Layout) → CatalogueOf cat l → (a : Allocated)
-          → allocate 0 heightCount (pageCount bs) (l .free) ≡ a
-          → addPieces (versionOf cat) i bs cat d l a .reply ≡ refused n → ⊥
-      go l h (allocated s r) e = answered-not-refused (pageCount bs) n
-      go l h tooFew e =
-          let full : (freeBlocks l < pageCount bs → ⊥) = λ x. clear noSpace refl (l, h, x) in
-          let sums = all-heights (h .version) (roomy (h .known)) l (h .rules) in
-          let w = allocate-fits heightCount i (pageCount bs) l sums (omega (arith, full)) in
-          let f = w .2 in
-          λ _. let z : _≡_ {A = ℕ} 0 1 = cc in omega arith
-  answers (remove i) clear n =
-      layout-read (remove i) n clear refl refl λ l h.
-      file-found (remove i) l n (λ x. removeFound (versionOf cat) cat d l x .reply) clear refl h λ f.
-      answered-not-refused (length (copiesOf (removal heightCount f l))) n
-  answers (read i p o) clear n =
-      layout-read (read i p o) n clear refl refl λ l h.
-      file-found (read i p o) l n (λ x. readFound p o cat d x .reply) clear refl h λ f.
-      answered-not-refused (pageCount o) n
-  answers (breaks i) clear n =
-      layout-read (breaks i) n clear refl refl λ l h.
-      file-found (breaks i) l n breaksFound clear refl h λ f.
-      answered-not-refused (breaksOf (f .pieces)) n
-  answers free clear n = layout-read free n clear refl refl λ l h. answered-not-refused (freeBlocks l) n
-  answers check clear n = layout-read check n clear refl refl λ l h. answered-not-refused (l .blocks) n
-
--- the lowest refusal is one
-lowest-unique : (c : Call) (cat d : List ℕ) (q r : Refusal)
-    → LowestOf (GivenTo c cat d) (numbersOf c) q → Lowest c cat d r → numberOf q ≡ numberOf r
-lowest-unique c cat d q r s t =
-    let not-lower : (numberOf q < numberOf r → ⊥) = λ x. t .lowest q x (s .listed) (s .given) in
-    let not-higher : (numberOf r < numberOf q → ⊥) = λ x. s .lowest r x (t .by) (t .given) in
-    omega (arith, not-lower, not-higher)
-
--- a call is refused with a number exactly if it is that of the table's lowest refusal that applies
-pub lowest-refusal : (c : Call) (cat d : List ℕ) → Bytes cat → (n : ℕ)
-    → (perform c cat d .reply ≡ refused n) ↔ ((r : Refusal) × (numberOf r ≡ n) × Lowest c cat d r)
-lowest-refusal c cat d bytes n = (
-  λ e. to (firstRefusal (conditionsOf c cat d)) (judged .right) (sym (reply-is c cat d) ∙ e),
-  λ w. reply-is c cat d ∙ from w (firstRefusal (conditionsOf c cat d)) (judged .right),
-)
-  where
-    judged : Judges (GivenTo c cat d) (numbersOf c) (conditionsOf c cat d)
-    judged = call-judged cat d bytes c
-
-    to : (j : Judgement) → Right (GivenTo c cat d) (numbersOf c) j
-        → replyUnless j (replyOf c cat d (readCatalogue (versionOf cat) cat)) ≡ refused n
-        → (r : Refusal) × (numberOf r ≡ n) × Lowest c cat d r
-    to allowed clear e = absurd (answers cat d bytes c clear n e)
-    to (refusal m) (r, e, low) q = (r, (cc), record { by = low .listed; given = low .given; lowest = low .lowest })
-
-    from : (r : Refusal) × (numberOf r ≡ n) × Lowest c cat d r → (j : Judgement)
-        → Right (GivenTo c cat d) (numbersOf c) j
-        → replyUnless j (replyOf c cat d (readCatalogue (versionOf cat) cat)) ≡ refused n
-    from w allowed clear = absurd (clear (w .0) (w .2 .by) (w .2 .given))
-    from w (refusal m) x = ap refused (sym (x .1) ∙ (lowest-unique c cat d (x .0) (w .0) (x .2) (w .2) ∙ w .1))
+  -- the call is refused with a number exactly if it is that of the table's lowest refusal that applies
+  pub lowest-refusal : Bytes cat → (n : ℕ)
+      → (perform c cat d .reply ≡ refused n) ↔ ((r : Refusal) × (numberOf r ≡ n) × Lowest c cat d r)
+  lowest-refusal bytes n = (
+    λ e. let w = first-refusal c cat d bytes n .0 e in (w .0, w .1, first-lowest (w .0) (w .2)),
+    λ w. first-refusal c cat d bytes n .1 (w .0, w .1, lowest-first (w .0) (w .2)),
+  )

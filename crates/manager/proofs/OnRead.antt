@@ -1,23 +1,27 @@
 -- The calls by what is read from the catalogue: a layout, none, or a buffer of another length. Assumes nothing.
-use mathlib.Core.Bool.{false, not, true}
+use mathlib.Core.Bool.{Bool, false, not, true}
 use mathlib.Core.List.{List, [], _∷_}
-use mathlib.Core.Path.{_∙_, _≡_, ap, ap₂}
+use mathlib.Core.Path.{_∙_, _≡_, ap, ap₂, refl}
 use Prim.Native.Nat.{ℕ}
+use native.Mathlib.Omega.{arith}
+use lib.Dec.{eqb}
 use lib.ListN.{length}
-use borrow.Author.Tests.{eq-eqb, ne-eqb}
-use Rattle.catalogue.specs.Reading.{readCatalogue, sound, unsound}
+use borrow.Author.Tests.{eq-eqb, eqb-true, ne-eqb}
+use Rattle.catalogue.specs.Reading.{Reading, readCatalogue, sound, unsound}
+use Rattle.catalogue.specs.Version.{versionOf}
 use Rattle.catalogue.specs.declared.Version.{Version}
 use Rattle.layout.specs.Adding.{allocate}
 use Rattle.layout.specs.Layout.{Layout, findFile, freeBlocks}
 use Rattle.layout.specs.Moves.{right}
 use Rattle.manager.proofs.CallEquations.{addIn-is, breaksIn-is, checkIn-is, freeIn-is, readIn-is, removeIn-is}
-use Rattle.manager.specs.Conditions.{Condition, addChecks, answered, condition, fileChecks, firstRefusal}
-use Rattle.manager.specs.Conditions.{onLayout, outcome, readChecks, refusal, refused, replyUnless}
+use Rattle.manager.proofs.CallEquations.{replaceOutcome-is}
+use Rattle.manager.specs.Conditions.{Condition, addChecks, allowed, answered, condition, fileChecks, firstRefusal}
+use Rattle.manager.specs.Conditions.{onLayout, outcome, readChecks, refusal, refused, replaceChecks, replyUnless}
 use Rattle.manager.specs.Conditions.{unlessRefused, wrongCatalogue, wrongDisk}
 use Rattle.manager.specs.Disk.{pageCount}
 use Rattle.manager.specs.Outcomes.{addIn, addPieces, breaksFound, breaksIn, checkIn, doAdd}
 use Rattle.manager.specs.Outcomes.{doBreaks, doCheck, doFree, doRead, doRemove, freeIn, readFound}
-use Rattle.manager.specs.Outcomes.{readIn, removeFound, removeIn}
+use Rattle.manager.specs.Outcomes.{readIn, removeFound, removeIn, removeThenAdd, replaceOutcome}
 use Rattle.section.specs.Limits.{heightCount}
 
 -- ---- a catalogue from which the layout l is read
@@ -76,6 +80,31 @@ module _ (v : Version) (cat : List ℕ) (l : Layout) (lc : length cat ≡ v .byt
       checkIn-is v cat d
       ∙ ap₂ (λ j x. replyUnless j (doCheck x)) (past-catalogue (λ m. condition 4 (wrongDisk m d) ∷ [])) rd
 
+-- a replacement goes by the catalogue's own version
+pub replace-on-read : (cat : List ℕ) (l : Layout) → length cat ≡ versionOf cat .bytes
+    → readCatalogue (versionOf cat) cat ≡ sound l → (i : ℕ) (bs d : List ℕ)
+    → replaceOutcome i bs cat d
+    ≡ unlessRefused (firstRefusal (condition 4 (wrongDisk l d) ∷ replaceChecks i bs d l)) cat d []
+    (removeThenAdd i bs cat d)
+replace-on-read cat l lc rd i bs d =
+    replaceOutcome-is cat i bs d
+    ∙ ap (λ j. unlessRefused j cat d [] (removeThenAdd i bs cat d))
+    (past-catalogue (versionOf cat) cat l lc rd (λ m. condition 4 (wrongDisk m d) ∷ replaceChecks i bs d m))
+
+-- a call that is allowed was given a catalogue from which a layout is read
+pub allowed-reads : (v : Version) (cat : List ℕ) (k : Layout → List Condition)
+    → firstRefusal (condition 1 (wrongCatalogue v cat) ∷ onLayout (readCatalogue v cat) k) ≡ allowed
+    → (l : Layout) × (length cat ≡ v .bytes) × (readCatalogue v cat ≡ sound l) × (firstRefusal (k l) ≡ allowed)
+unfolding firstRefusal
+allowed-reads v cat k e = go (eqb (length cat) (v .bytes)) refl (readCatalogue v cat) refl e
+  where
+    go : (b : Bool) → eqb (length cat) (v .bytes) ≡ b → (x : Reading) → readCatalogue v cat ≡ x
+        → firstRefusal (condition 1 (not b) ∷ onLayout x k) ≡ allowed
+        → (l : Layout) × (length cat ≡ v .bytes) × (readCatalogue v cat ≡ sound l) × (firstRefusal (k l) ≡ allowed)
+    go true lc (sound l) rd q = (l, eqb-true (length cat) (v .bytes) lc, rd, q)
+    go true lc unsound rd q = absurd (let z : _≡_ {A = ℕ} 0 1 = cc in omega arith)
+    go false lc x rd q = absurd (let z : _≡_ {A = ℕ} 0 1 = cc in omega arith)
+
 -- ---- a catalogue that is refused, whatever the conditions past it
 
 -- from which no layout is read
@@ -127,3 +156,15 @@ module _ (v : Version) (cat : List ℕ) (n : ℕ)
   check-refused d =
       checkIn-is v cat d
       ∙ ap (λ j. replyUnless j (doCheck (readCatalogue v cat))) (shut (λ m. condition 4 (wrongDisk m d) ∷ []))
+
+-- and so does a refused one
+pub replace-refused : (cat : List ℕ) (n : ℕ)
+    → ((k : Layout → List Condition)
+    → firstRefusal (condition 1 (wrongCatalogue (versionOf cat) cat) ∷ onLayout
+    (readCatalogue (versionOf cat) cat) k)
+    ≡ refusal n)
+    → (i : ℕ) (bs d : List ℕ) → replaceOutcome i bs cat d ≡ outcome (refused n) cat d []
+replace-refused cat n shut i bs d =
+    replaceOutcome-is cat i bs d
+    ∙ ap (λ j. unlessRefused j cat d [] (removeThenAdd i bs cat d))
+    (shut (λ m. condition 4 (wrongDisk m d) ∷ replaceChecks i bs d m))

@@ -1,7 +1,7 @@
 -- The calls on the encoding of a sound layout: past the conditions of the buffers. Assumes nothing.
 use mathlib.Core.Bool.{not}
 use mathlib.Core.List.{List, [], _∷_}
-use mathlib.Core.Path.{_∙_, _≡_, ap}
+use mathlib.Core.Path.{_∙_, _≡_, ap, sym}
 use Prim.Native.Nat.{_*_, ℕ}
 use lib.ListN.{length}
 use borrow.Author.Tests.{eq-eqb}
@@ -16,12 +16,13 @@ use Rattle.layout.specs.Layout.{Layout, findFile, freeBlocks}
 use Rattle.layout.specs.Sound.{Sound}
 use Rattle.manager.proofs.Judging.{passes}
 use Rattle.manager.proofs.OnRead.{add-on-read, breaks-on-read, check-on-read, free-on-read, read-on-read}
-use Rattle.manager.proofs.OnRead.{remove-on-read}
+use Rattle.manager.proofs.OnRead.{remove-on-read, replace-on-read}
 use Rattle.manager.specs.Conditions.{Condition, addChecks, answered, condition, fileChecks, firstRefusal}
-use Rattle.manager.specs.Conditions.{readChecks, replyUnless, unlessRefused, wrongDisk}
+use Rattle.manager.specs.Conditions.{readChecks, replaceChecks, replyUnless, unlessRefused, wrongDisk}
 use Rattle.manager.specs.Disk.{pageCount}
 use Rattle.manager.specs.Outcomes.{addOutcome, addPieces, breaksFound, breaksReply, checkReply, freeReply}
-use Rattle.manager.specs.Outcomes.{readFound, readOutcome, removeFound, removeOutcome}
+use Rattle.manager.specs.Outcomes.{readFound, readOutcome, removeFound, removeOutcome, removeThenAdd}
+use Rattle.manager.specs.Outcomes.{replaceOutcome}
 use Rattle.section.specs.Limits.{blockSize, heightCount}
 use Rattle.catalogue.proofs.Versions.{version-of-encoded}
 use Rattle.catalogue.specs.Version.{versionOf}
@@ -54,6 +55,15 @@ module _ (v : Version) (room : Roomy v) (l : Layout) (s : Sound (v .heights) l) 
   remove-on-catalogue i d =
       ap (λ u. removeIn u i (encode v l) d) pick ∙ remove-on-read v (encode v l) l lc rd i d
 
+  -- and a replacement
+  pub replace-on-catalogue : (i : ℕ) (bs d : List ℕ)
+      → replaceOutcome i bs (encode v l) d
+      ≡ unlessRefused (firstRefusal (condition 4 (wrongDisk l d) ∷ replaceChecks i bs d l)) (encode v l) d []
+      (removeThenAdd i bs (encode v l) d)
+  replace-on-catalogue i bs d =
+      replace-on-read (encode v l) l (lc ∙ ap (λ (u : Version). u .bytes) (sym pick))
+      (ap (λ u. readCatalogue u (encode v l)) pick ∙ rd) i bs d
+
   -- on a disk of the right length condition 4 does not apply
   module _ (d : List ℕ) (ld : length d ≡ blockSize * l .blocks) where
     past-disk : (cs : List Condition) → firstRefusal (condition 4 (wrongDisk l d) ∷ cs) ≡ firstRefusal cs
@@ -78,6 +88,14 @@ module _ (v : Version) (room : Roomy v) (l : Layout) (s : Sound (v .heights) l) 
         remove-on-catalogue i d
         ∙ ap (λ j. unlessRefused j (encode v l) d [] (removeFound v (encode v l) d l (findFile i (l .files))))
         (past-disk (fileChecks i l))
+
+    pub replace-on-sound : (i : ℕ) (bs : List ℕ)
+        → replaceOutcome i bs (encode v l) d
+        ≡ unlessRefused (firstRefusal (replaceChecks i bs d l)) (encode v l) d [] (removeThenAdd i bs (encode v l) d)
+    replace-on-sound i bs =
+        replace-on-catalogue i bs d
+        ∙ ap (λ j. unlessRefused j (encode v l) d [] (removeThenAdd i bs (encode v l) d))
+        (past-disk (replaceChecks i bs d l))
 
     pub read-on-sound : (i p : ℕ) (o : List ℕ)
         → readOutcome i p o (encode v l) d

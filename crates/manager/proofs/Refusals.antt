@@ -1,6 +1,6 @@
 -- A call that is refused changes no buffer: catalogue, disk and output are as they were. Assumes nothing.
 use mathlib.Core.List.{List, []}
-use mathlib.Core.Path.{_≡_, refl, subst, sym}
+use mathlib.Core.Path.{_∙_, _≡_, refl, subst, sym}
 use Prim.Native.Nat.{ℕ}
 use native.Mathlib.Omega.{arith}
 use lib.ListN.{length}
@@ -11,16 +11,17 @@ use Rattle.catalogue.specs.declared.Version.{Version}
 use Rattle.layout.specs.Adding.{Allocated, allocate, allocated, tooFew}
 use Rattle.layout.specs.Layout.{Found, findFile, found, freshLayout, missing}
 use Rattle.layout.specs.Removing.{copiesOf, removal}
-use Rattle.manager.proofs.CallEquations.{addIn-is, formatIn-is, readIn-is, removeIn-is}
-use Rattle.manager.specs.Call.{Call, add, breaks, check, free, outputOf, read, remove}
+use Rattle.manager.proofs.CallEquations.{addIn-is, formatIn-is, readIn-is, removeIn-is, replaceOutcome-is}
+use Rattle.manager.proofs.CanReplace.{removal-answered}
+use Rattle.manager.specs.Call.{Call, add, breaks, check, free, outputOf, read, remove, replace}
 use Rattle.manager.specs.Changes.{Unchanged}
 use Rattle.manager.specs.Conditions.{Judgement, Outcome, Reply, addConditions, allowed, answered}
 use Rattle.manager.specs.Conditions.{firstRefusal, formatConditions, outcome, readConditions, refusal}
-use Rattle.manager.specs.Conditions.{refused, removeConditions, unlessRefused}
+use Rattle.manager.specs.Conditions.{refused, removeConditions, replaceConditions, unlessRefused}
 use Rattle.manager.specs.Disk.{pageCount}
 use Rattle.manager.specs.Outcomes.{addPieces, breaksReply, checkReply, doAdd, doRead, doRemove}
 use Rattle.manager.specs.Outcomes.{formatOutcome, freeReply, perform, readFound}
-use Rattle.manager.specs.Outcomes.{removeFound}
+use Rattle.manager.specs.Outcomes.{removeFound, removeOutcome, removeThenAdd}
 use Rattle.section.specs.Limits.{heightCount}
 
 -- a refusal leaves the buffers
@@ -57,6 +58,14 @@ module _ (cat d : List ℕ) where
       go missing n e = same-buffers (refused 6) []
   remove-unchanged v i unsound = λ n e. same-buffers (refused 3) []
 
+  -- past its conditions a replacement is answered
+  replace-unchanged : (i : ℕ) (bs : List ℕ) (j : Judgement)
+      → (j ≡ allowed → (k : ℕ) × (removeOutcome i cat d .reply ≡ answered k))
+      → RefusedUnchanged cat d [] (unlessRefused j cat d [] (removeThenAdd i bs cat d))
+  replace-unchanged i bs allowed h n e =
+      let w = h refl in absurd (answered-not-refused (w .0) n (sym (w .1) ∙ e))
+  replace-unchanged i bs (refusal m) h n e = same-buffers (refused m) []
+
   read-unchanged : (i p : ℕ) (o : List ℕ) (x : Reading) → RefusedUnchanged cat d o (doRead i p o cat d x)
   read-unchanged i p o (sound l) = go (findFile i (l .files))
     where
@@ -79,6 +88,10 @@ refused-changes-nothing (remove i) cat d =
     (unless-unchanged cat d [] (firstRefusal (removeConditions (versionOf cat) i cat d))
     (doRemove (versionOf cat) i cat d (readCatalogue (versionOf cat) cat))
     (remove-unchanged cat d (versionOf cat) i (readCatalogue (versionOf cat) cat)))
+refused-changes-nothing (replace i bs) cat d =
+    subst (RefusedUnchanged cat d []) (sym (replaceOutcome-is cat i bs d))
+    (replace-unchanged cat d i bs (firstRefusal (replaceConditions (versionOf cat) i bs cat d))
+    (removal-answered i bs cat d))
 refused-changes-nothing (read i p o) cat d =
     subst (RefusedUnchanged cat d o) (sym (readIn-is (versionOf cat) cat i p o d))
     (unless-unchanged cat d o (firstRefusal (readConditions (versionOf cat) i p o cat d))

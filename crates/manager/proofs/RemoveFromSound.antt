@@ -76,10 +76,12 @@ module _ (v : Version) (room : Roomy v) (l : Layout) (s : Sound (v .heights) l) 
       (more {a = condition 6 (not (hasFile i (l .files)))} (ap (λ x. not (isFound x)) e) done))
 
   -- from any sound catalogue
+  pub remove-does : 1 ≤ i → removeOutcome i (encode v l) d ≡ afterMerges v (release f l) d (removal heightCount f l)
+  remove-does least =
+      remove-on-sound v room l s d ld i
+      ∙ (ap (λ j. unlessRefused j (encode v l) d [] (removeFound v (encode v l) d l (findFile i (l .files))))
+      (no-condition least)
+      ∙ ap (removeFound v (encode v l) d l) e)
+
   pub remove-from-sound : 1 ≤ i → RemovesFrom v l d f (removeOutcome i (encode v l) d)
-  remove-from-sound least =
-      subst (RemovesFrom v l d f) (sym (remove-on-sound v room l s d ld i))
-      (subst (λ j. RemovesFrom v l d f
-      (unlessRefused j (encode v l) d [] (removeFound v (encode v l) d l (findFile i (l .files)))))
-      (sym (no-condition least))
-      (subst (λ x. RemovesFrom v l d f (removeFound v (encode v l) d l x)) (sym e) removes))
+  remove-from-sound least = subst (RemovesFrom v l d f) (sym (remove-does least)) removes

@@ -1,5 +1,5 @@
 -- What a call leaves of the buffers that it never writes, whatever it is called with: a read leaves catalogue and
--- disk, format the disk, and format, add and remove have no output. Assumes nothing.
+-- disk, format the disk, and format, add, remove and replace have no output. Assumes nothing.
 use mathlib.Core.List.{List, []}
 use mathlib.Core.Path.{_≡_, refl, subst, sym}
 use Prim.Native.Nat.{ℕ}
@@ -7,13 +7,13 @@ use Rattle.catalogue.specs.Reading.{Reading, readCatalogue, sound, unsound}
 use Rattle.catalogue.specs.Version.{versionOf}
 use Rattle.layout.specs.Adding.{Allocated, allocate, allocated, tooFew}
 use Rattle.layout.specs.Layout.{Found, findFile, found, missing}
-use Rattle.manager.proofs.CallEquations.{addIn-is, formatIn-is, readIn-is, removeIn-is}
+use Rattle.manager.proofs.CallEquations.{addIn-is, formatIn-is, readIn-is, removeIn-is, replaceOutcome-is}
 use Rattle.manager.specs.Conditions.{Judgement, Outcome, addConditions, allowed, firstRefusal, formatConditions}
-use Rattle.manager.specs.Conditions.{readConditions, refusal, removeConditions, unlessRefused}
+use Rattle.manager.specs.Conditions.{readConditions, refusal, removeConditions, replaceConditions, unlessRefused}
 use Rattle.manager.specs.Disk.{pageCount}
 use Rattle.manager.specs.Outcomes.{addOutcome, addPieces, doAdd, doRead, doRemove}
 use Rattle.manager.specs.Outcomes.{formatOutcome, readFound, readOutcome, removeFound}
-use Rattle.manager.specs.Outcomes.{removeOutcome}
+use Rattle.manager.specs.Outcomes.{removeOutcome, removeThenAdd, replaceOutcome}
 use Rattle.section.specs.Limits.{heightCount}
 
 -- refused calls keep all, so what the call does decides
@@ -80,3 +80,9 @@ remove-no-output i cat d =
         file (found f) = refl
         file missing = refl
     reading unsound = refl
+
+pub replace-no-output : (i : ℕ) (bs cat d : List ℕ) → replaceOutcome i bs cat d .output ≡ []
+replace-no-output i bs cat d =
+    subst Silent (sym (replaceOutcome-is cat i bs d))
+    (unless-all Silent (firstRefusal (replaceConditions (versionOf cat) i bs cat d)) cat d []
+    (removeThenAdd i bs cat d) (λ n. refl) refl)

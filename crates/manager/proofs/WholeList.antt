@@ -24,19 +24,20 @@ use Rattle.layout.specs.Removing.{copiesOf, removal}
 use Rattle.layout.specs.Sums.{SoundSums}
 use Rattle.manager.proofs.Agreement.{call-agrees}
 use Rattle.manager.proofs.CallEquations.{formatIn-is}
+use Rattle.manager.proofs.CanReplace.{replace-answers-removal}
 use Rattle.manager.proofs.Contents.{length-paged}
 use Rattle.manager.proofs.Judging.{none-applies}
 use Rattle.manager.proofs.OnSound.{remove-on-catalogue}
 use Rattle.manager.proofs.Standing.{Standing, standing-afterwards}
 use Rattle.manager.proofs.Steps.{StepClaim, answered-same, claim-agrees, refused-answered}
 use Rattle.manager.specs.Book.{Book, freshBook, inBook}
-use Rattle.manager.specs.Call.{Call, ListedCall, TwoByteId}
+use Rattle.manager.specs.Call.{Call, ListedCall, TwoByteId, add, breaks, check, free, read, remove, replace}
 use Rattle.manager.specs.Conditions.{Outcome, allowed, answered, condition, firstRefusal, formatConditions}
 use Rattle.manager.specs.Conditions.{noDisk, outcome, unlessRefused, wrongCatalogue, wrongDisk}
 use Rattle.manager.specs.Disk.{pageCount}
 use Rattle.manager.specs.Outcomes.{formatIn, formatOutcome, perform, removeFound, removeOutcome}
 use Rattle.manager.specs.Table.{CatalogueOf}
-use Rattle.manager.specs.WholeList.{Follows, RightLengths, WholeList}
+use Rattle.manager.specs.WholeList.{Follows, RightLengths, Strikes, WholeList}
 use Rattle.section.specs.Limits.{heightCount}
 use Rattle.manager.proofs.AllHeights.{all-heights, fresh-in}
 
@@ -98,12 +99,12 @@ module _ (v : Version) (c : ℕ) (cat d : List ℕ) (h : RightLengths v c cat d)
     book = refl;
   }
 
--- the limit on copies, on every sound catalogue
-pub copies-limit : (cat d : List ℕ) (l : Layout) (i k : ℕ) (f : File) → CatalogueOf cat l
+-- the limit on copies of a removal, on every sound catalogue
+removal-limit : (cat d : List ℕ) (l : Layout) (i k : ℕ) (f : File) → CatalogueOf cat l
     → findFile i (l .files) ≡ found f
     → removeOutcome i cat d .reply ≡ answered k → k ≤ carries heightCount (freeBlocks l) (fileBlocks f)
 unfolding firstRefusal
-copies-limit cat d l i k f w e r =
+removal-limit cat d l i k f w e r =
     go (wrongDisk l d) (eqb i 0) (findFile i (l .files)) e
     (subst (λ (o : Outcome). o .reply ≡ answered k) (remove-on-catalogue v (roomy (w .known)) l (w .rules) i d)
     (subst (λ z. removeOutcome i z d .reply ≡ answered k) (w .encoded) r))
@@ -130,6 +131,21 @@ copies-limit cat d l i k f w e r =
         let n = answered-same (length (copiesOf (removal heightCount g l))) k q in
         let m = ap (λ (y : File). length (copiesOf (removal heightCount y l))) same in
         omega (arith, bound, n, m)
+
+-- and of a replacement, which answers what its removal does
+copies-limit : (c : Call) (cat d : List ℕ) (l : Layout) (i k : ℕ) (f : File) → Strikes i c → CatalogueOf cat l
+    → findFile i (l .files) ≡ found f
+    → perform c cat d .reply ≡ answered k → k ≤ carries heightCount (freeBlocks l) (fileBlocks f)
+copies-limit (add j bs) cat d l i k f t w e r = absurd t
+copies-limit (remove j) cat d l i k f t w e r =
+    removal-limit cat d l i k f w e (ap (λ z. removeOutcome z cat d .reply) t ∙ r)
+copies-limit (replace j bs) cat d l i k f t w e r =
+    removal-limit cat d l i k f w e
+    (ap (λ z. removeOutcome z cat d .reply) t ∙ replace-answers-removal j bs cat d k r)
+copies-limit (read j p o) cat d l i k f t w e r = absurd t
+copies-limit (breaks j) cat d l i k f t w e r = absurd t
+copies-limit free cat d l i k f t w e r = absurd t
+copies-limit check cat d l i k f t w e r = absurd t
 
 -- the claim: no premise is left
 pub whole-list : WholeList

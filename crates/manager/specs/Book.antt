@@ -1,11 +1,12 @@
--- The plain book of document 01. It sees C and the arguments of the calls, and never a catalogue, a block or an
--- answer: what it shares with the manager is lists, numbers and the calls' arguments. Definitions only.
+-- The plain book of document 01, with W1's replacement. It sees C and the arguments of the calls, and never a
+-- catalogue, a block or an answer: what it shares with the manager is lists, numbers and the calls' arguments.
+-- Definitions only.
 use mathlib.Core.Bool.{Bool, _&&_, cond, false, not, true}
 use mathlib.Core.List.{List, [], _++_, _∷_, map}
 use Prim.Native.Nat.{_*_, _+_, _-_, _/_, suc, zero, ℕ}
 use lib.Dec.{eqb, leb, ltb}
-use lib.ListN.{drop, length, take}
-use Rattle.manager.specs.Call.{Call, add, breaks, check, free, read, remove}
+use lib.ListN.{drop, getD, length, take}
+use Rattle.manager.specs.Call.{Call, add, breaks, check, free, read, remove, replace}
 
 -- a line: an id and its pages in order
 pub record Line : Type 0 where
@@ -77,6 +78,26 @@ unfoldable pub strikeLine : ℕ → List Line → List Line
 strikeLine i [] = []
 strikeLine i (x ∷ l) = elim (eqb (x .id) i) as (λ _. List Line) [ true ↦ l | false ↦ x ∷ strikeLine i l ]
 
+-- ---- its quality letters
+
+-- R, D, Q, M, lowest rank first
+abbrev pub ranked : List ℕ
+ranked = 0x52 ∷ 0x44 ∷ 0x51 ∷ 0x4d ∷ []
+
+-- where x stands in a list, counted from k, or 0
+unfoldable pub countedFrom : ℕ → ℕ → List ℕ → ℕ
+countedFrom k x [] = 0
+countedFrom k x (y ∷ l) = cond (eqb x y) k (countedFrom (suc k) x l)
+
+-- byte 6 of the first page
+unfoldable pub letterOn : List (List ℕ) → ℕ
+letterOn [] = 0
+letterOn (p ∷ l) = getD p 6 0
+
+-- its rank, 0 outside the four
+unfoldable pub bookRank : List (List ℕ) → ℕ
+bookRank ps = countedFrom 1 (letterOn ps) ranked
+
 -- ---- its replies
 
 -- a refusal, an answer, or an answer whose number is not the book's
@@ -123,6 +144,26 @@ bookRemove i b =
       output = [];
     }))
 
+-- the replacement of a line that is there: it is struck, and the new one is written
+abbrev pub bookReplaceLine : ℕ → List ℕ → Book → LineFound → BookStep
+bookReplaceLine i bs b noLine = bookRefuses 6 b []
+bookReplaceLine i bs b (line x) =
+    cond (not (isWhole bs)) (bookRefuses 8 b [])
+    (cond (eqb (bookRank (contentPages bs)) 0) (bookRefuses 12 b [])
+    (cond (leb (bookRank (contentPages bs)) (bookRank (x .pages))) (bookRefuses 13 b [])
+    (cond (ltb (bookFree b + length (x .pages)) (bookPages bs)) (bookRefuses 11 b [])
+    (record {
+      reply = anyNumber;
+      book = record {
+        blocks = b .blocks;
+        lines = writeLine (record { id = i; pages = contentPages bs }) (strikeLine i (b .lines));
+      };
+      output = [];
+    }))))
+
+abbrev pub bookReplace : ℕ → List ℕ → Book → BookStep
+bookReplace i bs b = cond (eqb i 0) (bookRefuses 5 b []) (bookReplaceLine i bs b (lineWith i (b .lines)))
+
 -- the read of a line that is there
 abbrev pub bookReadLine : ℕ → List ℕ → Book → LineFound → BookStep
 bookReadLine p o b noLine = bookRefuses 6 b o
@@ -144,6 +185,7 @@ bookBreaks i b =
 abbrev pub inBook : Call → Book → BookStep
 inBook (add i bs) b = bookAdd i bs b
 inBook (remove i) b = bookRemove i b
+inBook (replace i bs) b = bookReplace i bs b
 inBook (read i p o) b = bookRead i p o b
 inBook (breaks i) b = bookBreaks i b
 inBook free b = bookAnswers (bookFree b) b []

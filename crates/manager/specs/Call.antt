@@ -8,6 +8,8 @@ pub data Call : Type 0 where
   add : ℕ → List ℕ → Call
   -- id
   remove : ℕ → Call
+  -- id and content
+  replace : ℕ → List ℕ → Call
   -- id, first page and output
   read : ℕ → ℕ → List ℕ → Call
   -- id
@@ -19,6 +21,7 @@ pub data Call : Type 0 where
 abbrev pub outputOf : Call → List ℕ
 outputOf (add i bs) = []
 outputOf (remove i) = []
+outputOf (replace i bs) = []
 outputOf (read i p o) = o
 outputOf (breaks i) = []
 outputOf free = []
@@ -28,6 +31,7 @@ outputOf check = []
 abbrev pub TwoByteId : Call → Type 0
 TwoByteId (add i bs) = i ≤ greatestId
 TwoByteId (remove i) = Unit {0}
+TwoByteId (replace i bs) = Unit {0}
 TwoByteId (read i p o) = Unit {0}
 TwoByteId (breaks i) = Unit {0}
 TwoByteId free = Unit {0}

@@ -1,14 +1,15 @@
--- What a call leaves: a refusal's number and the buffers as they were, and all that an add and a removal do to a
--- sound catalogue and its disk. Definitions only.
+-- What a call leaves: a refusal's number and the buffers as they were, and all that an add, a removal and a replacement
+-- do to a sound catalogue and its disk. Definitions only.
+use mathlib.Core.Bool.{false}
 use mathlib.Core.List.{List, [], map}
 use mathlib.Core.Path.{_≡_}
-use Prim.Native.Nat.{_*_, _≤_, ℕ}
+use Prim.Native.Nat.{_*_, _+_, _<_, _≤_, ℕ}
 use lib.ListN.{length}
 use Rattle.section.specs.Limits.{blockSize, heightCount}
 use Rattle.section.specs.declared.Section.{Section}
 use Rattle.layout.specs.Adding.{allocate, allocated, withFile}
 use Rattle.layout.specs.Carries.{carries}
-use Rattle.layout.specs.Layout.{File, Layout, fileBlocks, freeBlocks, holdsBlock}
+use Rattle.layout.specs.Layout.{File, Layout, fileBlocks, findFile, found, freeBlocks, holdsBlock}
 use Rattle.layout.specs.Lists.{Each, sumOf}
 use Rattle.layout.specs.Removing.{Copy, copiesOf, layoutAfter, release, removal}
 use Rattle.layout.specs.Sound.{Sound}
@@ -16,9 +17,10 @@ use Rattle.catalogue.specs.Encoding.{encode}
 use Rattle.catalogue.specs.declared.Version.{Version}
 use Rattle.manager.specs.Book.{contentPages, strikeLine, writeLine}
 use Rattle.manager.specs.Call.{Call}
-use Rattle.manager.specs.Conditions.{Outcome, answered, refused}
+use Rattle.manager.specs.Conditions.{Outcome, answered, refused, unpaged}
 use Rattle.manager.specs.Disk.{block, cutPages, pageCount, pagesOn, runCopies}
-use Rattle.manager.specs.Outcomes.{perform}
+use Rattle.manager.specs.Outcomes.{addOutcome, perform, removeOutcome}
+use Rattle.manager.specs.Table.{firstRank}
 use Rattle.manager.specs.WholeList.{lineOn}
 
 -- the call is refused with the number n
@@ -67,3 +69,36 @@ pub record RemovesFrom (v : Version) (l : Layout) (d : List ℕ) (f : File) (o :
       → block (o .disk) x ≡ block d x
   -- copies stay within the carries of f + n
   pub limit : length (copiesOf (removal heightCount f l)) ≤ carries heightCount (freeBlocks l) (fileBlocks f)
+
+-- nothing refuses the replacement of the file f of the layout l, with id i, by the content bs on the disk d
+pub record CanReplace (l : Layout) (d : List ℕ) (i : ℕ) (bs : List ℕ) (f : File) : Type 0 where
+  pub disk : length d ≡ blockSize * l .blocks
+  pub least : 1 ≤ i
+  pub there : findFile i (l .files) ≡ found f
+  pub paged : unpaged bs ≡ false
+  -- the new letter is one of the four, and ranks above the stored one
+  pub ranked : 1 ≤ firstRank (cutPages (pageCount bs) bs)
+  pub above : firstRank (pagesOn d (f .pieces)) < firstRank (cutPages (pageCount bs) bs)
+  pub fits : pageCount bs ≤ freeBlocks l + fileBlocks f
+
+-- the layout that the removal of the file f leaves
+abbrev pub without : Layout → File → Layout
+without l f = layoutAfter (release f l) (removal heightCount f l)
+
+-- all that an answered replacement of the file f by the content bs does to the layout l and the disk d: what a removal
+-- and then an add do, each as a call
+pub record Replaces (v : Version) (l : Layout) (d : List ℕ) (i : ℕ) (f : File) (bs : List ℕ)
+    (o : Outcome) : Type 0 where
+  pub removed : RemovesFrom v l d f (removeOutcome i (encode v l) d)
+  pub added : Adds v (without l f) (removeOutcome i (encode v l) d .disk) i bs
+      (addOutcome i bs (removeOutcome i (encode v l) d .catalogue) (removeOutcome i (encode v l) d .disk))
+  -- the answer is the removal's, catalogue and disk are the add's
+  pub reply : o .reply ≡ answered (length (copiesOf (removal heightCount f l)))
+  pub catalogue : o .catalogue
+      ≡ addOutcome i bs (removeOutcome i (encode v l) d .catalogue) (removeOutcome i (encode v l) d .disk) .catalogue
+  pub disk : o .disk
+      ≡ addOutcome i bs (removeOutcome i (encode v l) d .catalogue) (removeOutcome i (encode v l) d .disk) .disk
+  pub output : o .output ≡ []
+  -- the other files keep their pages, and the new one has those of the content
+  pub lines : map (lineOn (o .disk)) (withFile i (added .pieces) (added .rest) (without l f) .files)
+      ≡ writeLine (record { id = i; pages = contentPages bs }) (strikeLine i (map (lineOn d) (l .files)))

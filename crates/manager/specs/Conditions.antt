@@ -1,4 +1,5 @@
--- Replies, outcomes, and the ordered conditions of each call: document 01, "Calls". Definitions only.
+-- Replies, outcomes, and the ordered conditions of each call: document 01, "Calls"; of a replacement: document 02, W1.
+-- Definitions only.
 -- The first condition that applies is the refusal, and no buffer changes then.
 use mathlib.Core.Bool.{Bool, _||_, false, not, true}
 use mathlib.Core.List.{List, [], _∷_}
@@ -9,7 +10,8 @@ use Rattle.catalogue.specs.Reading.{Reading, readCatalogue, sound, unsound}
 use Rattle.catalogue.specs.Version.{greatestBlocks}
 use Rattle.catalogue.specs.declared.Version.{Version}
 use Rattle.layout.specs.Layout.{Found, Layout, fileBlocks, findFile, found, freeBlocks, hasFile, missing}
-use Rattle.manager.specs.Disk.{pageCount}
+use Rattle.manager.specs.Disk.{cutPages, pageCount, pagesOn}
+use Rattle.quality.specs.Letters.{firstLetter, rankOf}
 use Rattle.section.specs.Limits.{blockSize, mostFiles}
 
 -- ---- replies, outcomes, conditions
@@ -75,6 +77,21 @@ abbrev pub beyond : Found → ℕ → ℕ → Bool
 beyond (found f) first count = ltb (fileBlocks f) (first + count)
 beyond missing first count = false
 
+-- the new first page has a quality letter outside the four
+abbrev pub unranked : List ℕ → Bool
+unranked bs = eqb (rankOf (firstLetter (cutPages (pageCount bs) bs))) 0
+
+-- its letter does not rank above that of the stored first page
+abbrev pub notAbove : List ℕ → List ℕ → Found → Bool
+notAbove bs d (found f) =
+    leb (rankOf (firstLetter (cutPages (pageCount bs) bs))) (rankOf (firstLetter (pagesOn d (f .pieces))))
+notAbove bs d missing = false
+
+-- the new n exceeds f plus the old n
+abbrev pub tooLong : List ℕ → Layout → Found → Bool
+tooLong bs l (found f) = ltb (freeBlocks l + fileBlocks f) (pageCount bs)
+tooLong bs l missing = false
+
 -- conditions that need a layout come after 3
 abbrev pub onLayout : Reading → (Layout → List Condition) → List Condition
 onLayout unsound k = condition 3 true ∷ []
@@ -103,6 +120,17 @@ readChecks i p o l =
     ∷ condition 9 (beyond (findFile i (l .files)) p (pageCount o))
     ∷ []
 
+-- 12 and 13 come before 11
+abbrev pub replaceChecks : ℕ → List ℕ → List ℕ → Layout → List Condition
+replaceChecks i new d l =
+    condition 5 (eqb i 0)
+    ∷ condition 6 (not (hasFile i (l .files)))
+    ∷ condition 8 (unpaged new)
+    ∷ condition 12 (unranked new)
+    ∷ condition 13 (notAbove new d (findFile i (l .files)))
+    ∷ condition 11 (tooLong new l (findFile i (l .files)))
+    ∷ []
+
 -- ---- the whole list of each call
 
 abbrev pub addConditions : Version → ℕ → List ℕ → List ℕ → List ℕ → List Condition
@@ -114,6 +142,11 @@ abbrev pub removeConditions : Version → ℕ → List ℕ → List ℕ → List
 removeConditions v i cat d =
     condition 1 (wrongCatalogue v cat) ∷ onLayout (readCatalogue v cat) λ l.
     condition 4 (wrongDisk l d) ∷ fileChecks i l
+
+abbrev pub replaceConditions : Version → ℕ → List ℕ → List ℕ → List ℕ → List Condition
+replaceConditions v i bs cat d =
+    condition 1 (wrongCatalogue v cat) ∷ onLayout (readCatalogue v cat) λ l.
+    condition 4 (wrongDisk l d) ∷ replaceChecks i bs d l
 
 abbrev pub readConditions : Version → ℕ → ℕ → List ℕ → List ℕ → List ℕ → List Condition
 readConditions v i p o cat d =

@@ -1,4 +1,4 @@
--- The outcome of each call on bytes: document 01, "Calls", "Adding" and "Removing". Definitions only.
+-- The outcome of each call on bytes: document 01, "Calls", "Adding" and "Removing"; document 02, W1. Definitions only.
 -- A refusal at a place that the conditions never let a call reach is marked so.
 use mathlib.Core.List.{List, []}
 use Prim.Native.Nat.{ℕ}
@@ -12,10 +12,11 @@ use Rattle.layout.specs.Adding.{Allocated, allocate, allocated, tooFew, withFil
 use Rattle.layout.specs.Layout.{Found, Layout, blocksOf, breaksOf, findFile, found, freeBlocks, freshLayout}
 use Rattle.layout.specs.Layout.{missing}
 use Rattle.layout.specs.Removing.{Merge, copiesOf, layoutAfter, release, removal}
-use Rattle.manager.specs.Call.{Call, add, breaks, check, free, read, remove}
+use Rattle.manager.specs.Call.{Call, add, breaks, check, free, read, remove, replace}
 use Rattle.manager.specs.Conditions.{Outcome, Reply, addConditions, answered, breaksConditions}
 use Rattle.manager.specs.Conditions.{checkConditions, firstRefusal, formatConditions, freeConditions, outcome}
-use Rattle.manager.specs.Conditions.{readConditions, refused, removeConditions, replyUnless, unlessRefused}
+use Rattle.manager.specs.Conditions.{readConditions, refused, removeConditions, replaceConditions, replyUnless}
+use Rattle.manager.specs.Conditions.{unlessRefused}
 use Rattle.manager.specs.Disk.{cutPages, joinPages, pageCount, pagesOn, runCopies, writePages}
 
 -- ---- what is done
@@ -116,6 +117,17 @@ addOutcome i bs cat d = addIn (versionOf cat) i bs cat d
 abbrev pub removeOutcome : ℕ → List ℕ → List ℕ → Outcome
 removeOutcome i cat d = removeIn (versionOf cat) i cat d
 
+-- past its conditions a replacement is a removal, and then an add on what that leaves; the reply is the removal's
+abbrev pub removeThenAdd : ℕ → List ℕ → List ℕ → List ℕ → Outcome
+removeThenAdd i bs cat d =
+    let removed : Outcome = removeOutcome i cat d in
+    let added : Outcome = addOutcome i bs (removed .catalogue) (removed .disk) in
+    outcome (removed .reply) (added .catalogue) (added .disk) []
+
+unfoldable pub replaceOutcome : ℕ → List ℕ → List ℕ → List ℕ → Outcome
+replaceOutcome i bs cat d =
+    unlessRefused (firstRefusal (replaceConditions (versionOf cat) i bs cat d)) cat d [] (removeThenAdd i bs cat d)
+
 abbrev pub readOutcome : ℕ → ℕ → List ℕ → List ℕ → List ℕ → Outcome
 readOutcome i p o cat d = readIn (versionOf cat) i p o cat d
 
@@ -142,6 +154,7 @@ checkOutcome cat d = outcome (checkReply cat d) cat d []
 abbrev pub perform : Call → List ℕ → List ℕ → Outcome
 perform (add i bs) cat d = addOutcome i bs cat d
 perform (remove i) cat d = removeOutcome i cat d
+perform (replace i bs) cat d = replaceOutcome i bs cat d
 perform (read i p o) cat d = readOutcome i p o cat d
 perform (breaks i) cat d = outcome (breaksReply i cat) cat d []
 perform free cat d = outcome (freeReply cat) cat d []

@@ -1,4 +1,4 @@
--- The claim about the whole list of calls: document 01, "The plain book". Definitions only.
+-- The claim about the whole list of calls: document 01, "The plain book"; document 02, W1. Definitions only.
 -- `WholeList` is the one statement; `whole-list` of `proofs/WholeList.antt` proves it, of every version.
 use mathlib.Core.List.{List, [], _∷_, map}
 use mathlib.Core.Path.{_≡_}
@@ -14,10 +14,10 @@ use Rattle.layout.specs.Lists.{Each, sumOf}
 use Rattle.layout.specs.Removing.{copiesOf, removal}
 use Rattle.manager.specs.Book.{Book, BookReply, Line, answers, anyNumber, bookFree, freshBook, inBook, line}
 use Rattle.manager.specs.Book.{lineWith, refuses}
-use Rattle.manager.specs.Call.{Call, ListedCall, add, breaks, check, free, read, remove}
+use Rattle.manager.specs.Call.{Call, ListedCall, add, breaks, check, free, read, remove, replace}
 use Rattle.manager.specs.Conditions.{Reply, answered, refused}
 use Rattle.manager.specs.Disk.{pagesOn}
-use Rattle.manager.specs.Outcomes.{formatOutcome, perform, removeOutcome}
+use Rattle.manager.specs.Outcomes.{formatOutcome, perform}
 use Rattle.manager.specs.Table.{CatalogueOf}
 use Rattle.section.specs.Limits.{blockSize, heightCount}
 
@@ -37,14 +37,25 @@ abbrev pub Answered : Reply → Type 0
 Answered (answered n) = Unit {0}
 Answered (refused n) = ⊥
 
--- only an add or a removal that is not refused alters anything
+-- only an add, a removal or a replacement that is not refused alters anything
 abbrev pub Alters : Call → Reply → Type 0
 Alters (add i bs) r = Answered r
 Alters (remove i) r = Answered r
+Alters (replace i bs) r = Answered r
 Alters (read i p o) r = ⊥
 Alters (breaks i) r = ⊥
 Alters free r = ⊥
 Alters check r = ⊥
+
+-- the call strikes the line i: as a removal, or as a replacement before it writes the new one
+abbrev pub Strikes : ℕ → Call → Type 0
+Strikes i (add j bs) = ⊥
+Strikes i (remove j) = i ≡ j
+Strikes i (replace j bs) = i ≡ j
+Strikes i (read j p o) = ⊥
+Strikes i (breaks j) = ⊥
+Strikes i free = ⊥
+Strikes i check = ⊥
 
 -- what is claimed of one call on a catalogue and a disk, beside the book
 pub record CallAgrees (c : Call) (cat d : List ℕ) (b : Book) : Type 0 where
@@ -54,11 +65,12 @@ pub record CallAgrees (c : Call) (cat d : List ℕ) (b : Book) : Type 0 where
   pub catalogue-kept : (Alters c (perform c cat d .reply) → ⊥) → perform c cat d .catalogue ≡ cat
   pub disk-kept : (Alters c (perform c cat d .reply) → ⊥) → perform c cat d .disk ≡ d
   pub book-kept : (Alters c (perform c cat d .reply) → ⊥) → inBook c b .book ≡ b
-  -- a removal answers the number of block copies made at its steps, within the carries of f + n
-  pub copies : (i k : ℕ) (l : Layout) (f : File) → c ≡ remove i → perform c cat d .reply ≡ answered k
+  -- a removal, and a replacement, answers the number of block copies made at the removal's steps, within the carries
+  -- of f + n, n being that of the file that goes
+  pub copies : (i k : ℕ) (l : Layout) (f : File) → Strikes i c → perform c cat d .reply ≡ answered k
       → CatalogueOf cat l
       → findFile i (l .files) ≡ found f → k ≡ length (copiesOf (removal heightCount f l))
-  pub limit : (i k : ℕ) (x : Line) → c ≡ remove i → perform c cat d .reply ≡ answered k
+  pub limit : (i k : ℕ) (x : Line) → Strikes i c → perform c cat d .reply ≡ answered k
       → lineWith i (b .lines) ≡ line x
       → k ≤ carries heightCount (bookFree b) (length (x .pages))
   -- breaks answers the breaks of the file's pieces in the catalogue
@@ -117,7 +129,7 @@ pub record WholeList : Type 0 where
   -- and every list of calls from there follows a fresh book
   pub list : (v : Version) (c : ℕ) (cat d : List ℕ) → RightLengths v c cat d → (calls : List ListedCall)
       → Follows v calls (formatOutcome cat d .catalogue) (formatOutcome cat d .disk) (freshBook c)
-  -- the limit on copies stands for a removal on every sound catalogue
-  pub limit : (cat d : List ℕ) (l : Layout) (i k : ℕ) (f : File) → CatalogueOf cat l
+  -- the limit on copies stands for a removal and a replacement on every sound catalogue
+  pub limit : (c : Call) (cat d : List ℕ) (l : Layout) (i k : ℕ) (f : File) → Strikes i c → CatalogueOf cat l
       → findFile i (l .files) ≡ found f
-      → removeOutcome i cat d .reply ≡ answered k → k ≤ carries heightCount (freeBlocks l) (fileBlocks f)
+      → perform c cat d .reply ≡ answered k → k ≤ carries heightCount (freeBlocks l) (fileBlocks f)

@@ -19,7 +19,7 @@ use Rattle.layout.specs.Moves.{same}
 use Rattle.layout.specs.Removing.{Merge, copiesOf, due, layoutAfter, merge, mergeAll, nextMerge}
 use Rattle.layout.specs.Removing.{settled}
 use Rattle.manager.specs.Disk.{runCopies}
-use Rattle.section.specs.Limits.{blockSize, greatestDisk, heightCount}
+use Rattle.section.specs.Limits.{blockSize, greatestDisk, heightCount, mostFiles}
 use Rattle.section.specs.Nesting.{upper}
 use Rattle.table.proofs.NextPair.{merge-due, merge-settled}
 use Rattle.table.proofs.ReadyPairs.{Fits, due-fits, merge-countable, merge-ready}
@@ -177,10 +177,10 @@ module _ (t₀ : Table) (d₀ : List ℕ) (t : Table) (d : List ℕ) (copied : �
 
 -- no height has two any more
 pub settling-end : (t₀ : Table) (d₀ : List ℕ) (t : Table) (d : List ℕ) (copied : ℕ) → Settling t₀ d₀ t d copied
-    → (p : Pair)
+    → length (t .files) ≡ mostFiles → (p : Pair)
     → Pairs (t .free .count) (lowestPair heightCount 0 (freeOf (t .free))) p → p .found ≡ false
     → Settles t₀ d₀ d (record { table = t; copied = copied })
-settling-end t₀ d₀ t d copied g p ps f =
+settling-end t₀ d₀ t d copied g long p ps f =
     let none = merge-none (t .free .count) (layoutOf t) (merge-settled (t .free .count) t p ps f) in
     let all : g .made ≡ mergesOf t₀ = sym (append-nil (g .made)) ∙ (ap (λ z. g .made ++ z) (sym none) ∙ g .all) in
     record {
@@ -189,5 +189,6 @@ settling-end t₀ d₀ t d copied g p ps f =
       count = g .count ∙ ap (λ z. length (copiesOf z)) all;
       sized = g .sized;
       blocks = g .blocks;
+      array = long;
       exact = g .exact;
     }

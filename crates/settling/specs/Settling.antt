@@ -4,7 +4,7 @@ use mathlib.Core.List.{List}
 use Prim.Native.Nat.{ℕ, _*_, _≤_}
 use lib.ListN.{length}
 use Rattle.layout.specs.Covering.{Whole}
-use Rattle.section.specs.Limits.{blockSize, greatestDisk, heightCount}
+use Rattle.section.specs.Limits.{blockSize, greatestDisk, heightCount, mostFiles}
 use Rattle.layout.specs.Removing.{Merge, copiesOf, layoutAfter, mergeAll}
 use Rattle.manager.specs.Disk.{runCopies}
 use Rattle.table.specs.declared.Table.{Table}
@@ -31,4 +31,5 @@ pub record Settles (t : Table) (d d′ : List ℕ) (r : Settled) : Type 0 where
   pub count : r .copied ≡ length (copiesOf (mergesOf t))
   pub sized : Sized (r .table)
   pub blocks : r .table .blocks ≡ t .blocks
+  pub array : length (r .table .files) ≡ mostFiles
   pub exact : length (freeOf (r .table .free)) ≡ r .table .free .count

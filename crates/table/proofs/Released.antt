@@ -53,23 +53,25 @@ without-place i (f ∷ l) = go (eqb (f .id) i) (without-place i l)
     go true e = refl
     go false e = ap (λ z. f ∷ z) e
 
+-- there are as many files as the table counts
+pub length-files : (t : Table) → t .count ≤ length (t .files) → length (filesOf t) ≡ t .count
+unfolding filesOf
+length-files t most =
+    length-map (take (t .count) (t .files)) fileOf ∙ length-take-le (t .count) (t .files) most
+
 -- the place that `find` answers
 module _ (t : Table) (id i : ℕ) (most : t .count ≤ length (t .files))
     (at : i ≡ firstPlace (hasId id) (filesOf t)) where
-  length-files : length (filesOf t) ≡ t .count
-  unfolding filesOf
-  length-files = length-map (take (t .count) (t .files)) fileOf ∙ length-take-le (t .count) (t .files) most
-
   pub find-at : i < t .count → findFile id (filesOf t) ≡ found (fileOf (entryAt t i))
   unfolding filesOf
   find-at lt =
-      place-found id (fileOf noEntry) (filesOf t) (omega (arith, length-files))
+      place-found id (fileOf noEntry) (filesOf t) (omega (arith, length-files t most))
       ∙ ap found (ap (λ k. getD (filesOf t) k (fileOf noEntry)) (sym at)
       ∙ (List·getD-map fileOf (take (t .count) (t .files)) i noEntry
       ∙ ap fileOf (getD-take (t .count) (t .files) i noEntry lt)))
 
   pub find-none : t .count ≤ i → findFile id (filesOf t) ≡ missing
-  find-none le = place-missing id (filesOf t) (omega (arith, length-files))
+  find-none le = place-missing id (filesOf t) (omega (arith, length-files t most))
 
   pub id-at : i < t .count → entryAt t i .id ≡ id
   id-at lt = find-id (found-find id (filesOf t) (fileOf (entryAt t i)) (find-at lt) .1)

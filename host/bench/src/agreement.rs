@@ -57,7 +57,7 @@ pub struct OtherLayout {
 }
 
 /// Makes each call once on every side, all from the same bytes, and compares answers, catalogues, outputs and disks; of
-/// the removals of other builds the files that are left. Answers which builds leave another layout.
+/// the removals and replacements of other builds the files that are left. Answers which builds leave another layout.
 pub fn sides_agree(scene: &mut Scene, builds: &[&'static Build]) -> Vec<OtherLayout> {
     let before = scene.disk.clone();
     let mut others = Vec::new();
@@ -66,11 +66,11 @@ pub fn sides_agree(scene: &mut Scene, builds: &[&'static Build]) -> Vec<OtherLay
         for side in [Side::Twin, Side::Model] {
             same(side, call, outcome(scene, side, call, &before) == proved);
         }
-        for &build in builds {
+        for &build in builds.iter().filter(|build| build.has(call)) {
             let other = outcome(scene, Side::Beside(build), call, &before);
-            let removes = call == Call::Remove;
+            let removes = [Call::Remove, Call::Replace].contains(&call);
             same(Side::Beside(build), call, other == proved || removes && other.has_files_of(&proved, &before));
-            if other.cat != proved.cat {
+            if call == Call::Remove && other.cat != proved.cat {
                 others.push(OtherLayout { build, copied: other.answer.unwrap_or(0) });
             }
         }

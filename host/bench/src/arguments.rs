@@ -17,12 +17,13 @@ bench: times the proved event disk manager beside a plain twin and beside the se
                     the ratios of the proved calls to it; may be repeated. FILE is a shared library, by a path from
                     the repository on, that is made from an archive of the build:
                     cc -shared -o FILE -Wl,--whole-archive libevdisk.a -Wl,--no-whole-archive
-                    A build that does not have a version of the catalogue is left out on its disks. One that merges
-                    other free sections in a removal is timed, and it is said how many blocks it copies
+                    A build that does not have a version of the catalogue is left out on its disks, and one that has
+                    no replace in that row. One that merges other free sections in a removal is timed, and it is said
+                    how many blocks it copies
   --profile SIDE CALL DISK N
                     only makes a call N times, for a profiler to watch:
                     SIDE is proved, twin or model
-                    CALL is format, add, remove, read-page, read-file, breaks, free or check
+                    CALL is format, add, remove, replace, read-page, read-file, breaks, free or check
                     DISK is 261-8, 261-64, 4096-8 or 4095-64: blocks and files, in the small catalogue; or
                     261-8-large, 1048576-8 or 1048576-64, in the large one
   --help            this text
@@ -114,10 +115,10 @@ mod tests {
     }
 
     #[test]
-    fn the_help_names_every_disk() {
+    fn the_help_names_every_disk_and_every_call() {
         let words: Vec<&str> = HELP.split(|c: char| c.is_whitespace() || ",;:".contains(c)).collect();
-        for shape in Shape::ALL {
-            assert!(words.contains(&shape.name), "{}", shape.name);
+        for name in Shape::ALL.iter().map(|shape| shape.name).chain(Call::ALL.map(Call::name)) {
+            assert!(words.contains(&name), "{name}");
         }
     }
 

@@ -6,7 +6,10 @@ use crate::markdown::{blocks, ratio, table};
 use crate::timing::Beside;
 use twin::Version;
 
-/// The first cells of a line, and the builds beside that have a place in it.
+/// In the place of a number: the build does not have the call.
+const NONE: &str = "-";
+
+/// The first cells of a line, and the builds beside that have a place in it. The first line has all.
 pub type BesideLine<'a> = (Vec<String>, &'a [Beside]);
 
 /// The proved calls over those of other builds, and which builds are left out since they do not have the version. There
@@ -26,8 +29,10 @@ pub fn beside_part(
         let names: Vec<String> = ratios.chain(times).collect();
         let header: Vec<&str> = first_cells.iter().copied().chain(names.iter().map(String::as_str)).collect();
         let row = |(cells, besides): &BesideLine| {
-            let ratios = besides.iter().map(|beside| ratio(beside.from_proved));
-            let times = besides.iter().map(|beside| nanoseconds(beside.time.median));
+            let of = |build: &Build| besides.iter().find(|beside| beside.build == build);
+            let ratios = there.iter().map(|build| of(build).map_or(NONE.into(), |beside| ratio(beside.from_proved)));
+            let times =
+                there.iter().map(|build| of(build).map_or(NONE.into(), |beside| nanoseconds(beside.time.median)));
             cells.iter().cloned().chain(ratios).chain(times).collect()
         };
         let rows: Vec<Vec<String>> = lines.iter().map(row).collect();

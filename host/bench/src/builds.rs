@@ -1,6 +1,7 @@
 //! Other builds of the manager, which take part beside the proved one.
 
 use crate::library::Library;
+use crate::sides::Call;
 use std::path::PathBuf;
 use twin::{Version, BLOCK};
 
@@ -32,6 +33,11 @@ impl Build {
     pub fn load(named: Named) -> Result<&'static Build, String> {
         let calls = Library::load(&named.file).map_err(|what| format!("{}: {what}", named.file.display()))?;
         Ok(Box::leak(Box::new(Build { name: named.name, calls })))
+    }
+
+    /// Whether the build has a call: those from before W1 have no replace.
+    pub fn has(&self, call: Call) -> bool {
+        call != Call::Replace || self.calls.has_replace()
     }
 
     /// Whether the build has a version: one that has not refuses the length of its catalogue.

@@ -18,17 +18,20 @@ const RTLD_NOW: c_int = 2;
 type Format = unsafe extern "C" fn(*mut u8, usize, *const u8, usize) -> i64;
 type Add = unsafe extern "C" fn(*mut u8, usize, *mut u8, usize, u16, *const u8, usize) -> i64;
 type Remove = unsafe extern "C" fn(*mut u8, usize, *mut u8, usize, u16) -> i64;
+type Replace = unsafe extern "C" fn(*mut u8, usize, *mut u8, usize, u16, *const u8, usize) -> i64;
 type Read = unsafe extern "C" fn(*const u8, usize, *const u8, usize, u16, u64, *mut u8, usize) -> i64;
 type Breaks = unsafe extern "C" fn(*const u8, usize, u16) -> i64;
 type Free = unsafe extern "C" fn(*const u8, usize) -> i64;
 type Check = unsafe extern "C" fn(*const u8, usize, *const u8, usize) -> i64;
 
-/// The seven calls of include/evdisk.h. The library stays loaded to the end of the program.
+/// The eight calls of include/evdisk.h. Builds from before W1 have no replace. The library stays loaded to the end of
+/// the program.
 #[derive(Debug)]
 pub struct Library {
     format: Format,
     add: Add,
     remove: Remove,
+    replace: Option<Replace>,
     read: Read,
     breaks: Breaks,
     free: Free,
@@ -70,6 +73,7 @@ impl Library {
         let (remove, read) = (address(library, c"evdisk_remove")?, address(library, c"evdisk_read")?);
         let (breaks, free) = (address(library, c"evdisk_breaks")?, address(library, c"evdisk_free")?);
         let check = address(library, c"evdisk_check")?;
+        let replace = address(library, c"evdisk_replace").ok();
         // SAFETY: in a build of the manager these names are functions of the types above, which are those of
         // include/evdisk.h, and no address is null.
         unsafe {
@@ -77,6 +81,7 @@ impl Library {
                 format: std::mem::transmute::<*mut c_void, Format>(format),
                 add: std::mem::transmute::<*mut c_void, Add>(add),
                 remove: std::mem::transmute::<*mut c_void, Remove>(remove),
+                replace: replace.map(|replace| std::mem::transmute::<*mut c_void, Replace>(replace)),
                 read: std::mem::transmute::<*mut c_void, Read>(read),
                 breaks: std::mem::transmute::<*mut c_void, Breaks>(breaks),
                 free: std::mem::transmute::<*mut c_void, Free>(free),
@@ -104,6 +109,19 @@ impl Library {
     pub fn remove(&self, cat: &mut [u8], disk: &mut [u8], id: u16) -> i64 {
         // SAFETY: as said above.
         unsafe { (self.remove)(cat.as_mut_ptr(), cat.len(), disk.as_mut_ptr(), disk.len(), id) }
+    }
+
+    /// Whether the build can replace.
+    pub fn has_replace(&self) -> bool {
+        self.replace.is_some()
+    }
+
+    pub fn replace(&self, cat: &mut [u8], disk: &mut [u8], id: u16, content: &[u8]) -> i64 {
+        let replace = self.replace.expect("only builds that have it are asked");
+        let (cat, cat_length) = (cat.as_mut_ptr(), cat.len());
+        let (disk, disk_length) = (disk.as_mut_ptr(), disk.len());
+        // SAFETY: as said above.
+        unsafe { replace(cat, cat_length, disk, disk_length, id, content.as_ptr(), content.len()) }
     }
 
     pub fn read(&self, cat: &[u8], disk: &[u8], id: u16, first: u64, out: &mut [u8]) -> i64 {

@@ -2,7 +2,8 @@
 
 use crate::numbers::Numbers;
 use crate::shape::Shape;
-use crate::sides::{Call, Lent};
+use crate::sides::{Call, Lent, Letter};
+use model::BlockMap;
 use twin::BLOCK;
 
 /// What is told of a scene.
@@ -14,14 +15,22 @@ pub struct Facts {
     pub id: u16,
 }
 
+/// The place of the quality letter in a page.
+const LETTER: usize = 6;
+/// The letter of contents, and that of the file which is replaced: a lower one.
+const REVIEWED: u8 = b'M';
+const RAW: u8 = b'D';
+
 /// The buffers of all calls. The disk is the only one of its size: calls are made on it one after another, and its
-/// bytes are not put back, since no call goes by them.
+/// bytes are not put back, since no call goes by them but a replacement by the letter of the stored first page.
 pub struct Scene {
     pub facts: Facts,
     /// The catalogue with the file of the id, and without.
     with: Vec<u8>,
     without: Vec<u8>,
     pub disk: Vec<u8>,
+    /// The place of the letter of the file of the id, by the catalogue with it.
+    letter: usize,
     content: Vec<u8>,
     out: Vec<u8>,
 }
@@ -39,8 +48,10 @@ impl Scene {
         let (id, copied) = most_copied(&with, &disk, shape.files);
         let mut without = with.clone();
         assert_eq!(twin::remove(&mut without, &mut disk, id), Ok(copied));
+        let letter = first_block(&with, id) * BLOCK + LETTER;
+        disk[letter] = RAW;
         let out = vec![0; content.len()];
-        Scene { facts: Facts { shape, copied, id }, with, without, disk, content, out }
+        Scene { facts: Facts { shape, copied, id }, with, without, disk, letter, content, out }
     }
 
     /// The catalogue that a call starts from, and its other buffers. An add puts the file of the id back, which is
@@ -48,8 +59,15 @@ impl Scene {
     pub fn lend(&mut self, call: Call) -> (&[u8], Lent<'_>) {
         let start = if call == Call::Add { &self.without } else { &self.with };
         let out = if call == Call::ReadPage { &mut self.out[..BLOCK] } else { &mut self.out[..] };
-        (start, Lent { disk: &mut self.disk, content: &self.content, out, id: self.facts.id })
+        let raw = (call == Call::Replace).then_some(Letter { place: self.letter, letter: RAW });
+        (start, Lent { disk: &mut self.disk, raw, content: &self.content, out, id: self.facts.id })
     }
+}
+
+/// The block of a file's first page.
+fn first_block(cat: &[u8], id: u16) -> usize {
+    let catalogue = model::sound(cat).expect("the catalogue is sound");
+    BlockMap::of(&catalogue).pages(id)[0]
 }
 
 /// The id of a file that is on the disk only for a while: below all others.
@@ -60,10 +78,12 @@ fn id_at(place: usize) -> u16 {
     7 * place as u16 + 3
 }
 
-/// Pages that differ from each other.
+/// Pages that differ from each other, of which the first has a quality letter.
 fn content(pages: usize) -> Vec<u8> {
     let mut numbers = Numbers(pages as u64);
-    (0..pages * BLOCK).map(|_| numbers.next() as u8).collect()
+    let mut content: Vec<u8> = (0..pages * BLOCK).map(|_| numbers.next() as u8).collect();
+    content[LETTER] = REVIEWED;
+    content
 }
 
 /// Takes two files out and puts them back, with a file of another length there in between, so that pieces get mixed.
@@ -89,4 +109,35 @@ fn most_copied(cat: &[u8], disk: &[u8], files: usize) -> (u16, u64) {
     let copied = |id| model::removal_copies(cat, disk, id).expect("the file is there").len() as u64;
     let all = (0..files).map(|place| (id_at(place), copied(id_at(place))));
     all.reduce(|most, next| if next.1 > most.1 { next } else { most }).expect("there is a file")
+}
+
+#[cfg(test)]
+mod tests {
+    use super::*;
+    use crate::sides::Side;
+    use crate::timing::Batch;
+
+    /// A batch asks that its calls are answered: a replacement finds a lower letter every time, whatever was there
+    /// before.
+    #[test]
+    fn every_call_of_a_batch_is_answered() {
+        for name in ["261-8", "261-8-large", "261-64"] {
+            let mut scene = Scene::used(Shape::named(name).expect("it is a disk"));
+            for call in [Call::Replace, Call::Remove, Call::Replace].into_iter().chain(Call::ALL) {
+                let mut batch = Batch::new(&mut scene, call);
+                assert!(Side::ALL.into_iter().all(|side| batch.time(side) >= 0.0));
+            }
+        }
+    }
+
+    /// The replaced file has the raw letter on the disk, and what replaces it the reviewed one.
+    #[test]
+    fn a_replacement_goes_by_the_letter() {
+        let mut scene = Scene::used(Shape::named("261-8").expect("it is a disk"));
+        let (start, lent) = scene.lend(Call::Replace);
+        let mut cat = start.to_vec();
+        assert_eq!(twin::replace(&mut cat, lent.disk, lent.id, lent.content), Ok(scene.facts.copied));
+        let (_, lent) = scene.lend(Call::Replace);
+        assert_eq!(twin::replace(&mut cat, lent.disk, lent.id, lent.content), Err(13), "it is there already");
+    }
 }

@@ -35,6 +35,7 @@ pub enum Call {
     Format,
     Add,
     Remove,
+    Replace,
     ReadPage,
     ReadFile,
     Breaks,
@@ -43,14 +44,24 @@ pub enum Call {
 }
 
 impl Call {
-    pub const ALL: [Call; 8] =
-        [Call::Format, Call::Add, Call::Remove, Call::ReadPage, Call::ReadFile, Call::Breaks, Call::Free, Call::Check];
+    pub const ALL: [Call; 9] = [
+        Call::Format,
+        Call::Add,
+        Call::Remove,
+        Call::Replace,
+        Call::ReadPage,
+        Call::ReadFile,
+        Call::Breaks,
+        Call::Free,
+        Call::Check,
+    ];
 
     pub fn name(self) -> &'static str {
         match self {
             Call::Format => "format",
             Call::Add => "add",
             Call::Remove => "remove",
+            Call::Replace => "replace",
             Call::ReadPage => "read-page",
             Call::ReadFile => "read-file",
             Call::Breaks => "breaks",
@@ -63,17 +74,36 @@ impl Call {
     pub fn pages(self, file_blocks: usize) -> usize {
         match self {
             Call::Add | Call::Remove | Call::ReadFile => file_blocks,
+            Call::Replace => 2 * file_blocks,
             _ => 1,
         }
     }
 }
 
+/// A quality letter, and its place on the disk.
+#[derive(Clone, Copy)]
+pub struct Letter {
+    pub place: usize,
+    pub letter: u8,
+}
+
 /// The buffers and numbers of one call, but for its catalogue.
 pub struct Lent<'a> {
     pub disk: &'a mut [u8],
+    /// The letter that the stored file has to have before a replacement, which may write another one there.
+    pub raw: Option<Letter>,
     pub content: &'a [u8],
     pub out: &'a mut [u8],
     pub id: u16,
+}
+
+impl Lent<'_> {
+    /// Puts the letter back that the call goes by.
+    pub fn put_letter(&mut self) {
+        if let Some(Letter { place, letter }) = self.raw {
+            self.disk[place] = letter;
+        }
+    }
 }
 
 /// Makes one call.
@@ -91,6 +121,7 @@ fn on_proved(call: Call, cat: &mut [u8], lent: &mut Lent) -> Result<u64, Refusal
         Call::Format => event_disk::format(cat, lent.disk),
         Call::Add => event_disk::add(cat, lent.disk, lent.id, lent.content),
         Call::Remove => event_disk::remove(cat, lent.disk, lent.id),
+        Call::Replace => event_disk::replace(cat, lent.disk, lent.id, lent.content),
         Call::ReadPage | Call::ReadFile => event_disk::read(cat, lent.disk, lent.id, 0, lent.out),
         Call::Breaks => event_disk::breaks(cat, lent.id),
         Call::Free => event_disk::free(cat),
@@ -103,6 +134,7 @@ fn on_twin(call: Call, cat: &mut [u8], lent: &mut Lent) -> Result<u64, u8> {
         Call::Format => twin::format(cat, lent.disk),
         Call::Add => twin::add(cat, lent.disk, lent.id, lent.content),
         Call::Remove => twin::remove(cat, lent.disk, lent.id),
+        Call::Replace => twin::replace(cat, lent.disk, lent.id, lent.content),
         Call::ReadPage | Call::ReadFile => twin::read(cat, lent.disk, lent.id, 0, lent.out),
         Call::Breaks => twin::breaks(cat, lent.id),
         Call::Free => twin::free(cat),
@@ -115,6 +147,7 @@ fn on_model(call: Call, cat: &mut [u8], lent: &mut Lent) -> Result<u64, u8> {
         Call::Format => model::format(cat, lent.disk),
         Call::Add => model::add(cat, lent.disk, lent.id, lent.content),
         Call::Remove => model::remove(cat, lent.disk, lent.id),
+        Call::Replace => model::replace(cat, lent.disk, lent.id, lent.content),
         Call::ReadPage | Call::ReadFile => model::read(cat, lent.disk, lent.id, 0, lent.out),
         Call::Breaks => model::breaks(cat, lent.id),
         Call::Free => model::free(cat),
@@ -127,6 +160,7 @@ fn on_build(build: &Build, call: Call, cat: &mut [u8], lent: &mut Lent) -> i64 {
         Call::Format => build.calls.format(cat, lent.disk),
         Call::Add => build.calls.add(cat, lent.disk, lent.id, lent.content),
         Call::Remove => build.calls.remove(cat, lent.disk, lent.id),
+        Call::Replace => build.calls.replace(cat, lent.disk, lent.id, lent.content),
         Call::ReadPage | Call::ReadFile => build.calls.read(cat, lent.disk, lent.id, 0, lent.out),
         Call::Breaks => build.calls.breaks(cat, lent.id),
         Call::Free => build.calls.free(cat),

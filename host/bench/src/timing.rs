@@ -73,25 +73,29 @@ impl<'a> Batch<'a> {
     }
 
     /// The nanoseconds of a call. Catalogues are restored before the clock starts; the bytes of the disk have no
-    /// influence on what a call does, and stay.
+    /// influence on what a call does, and stay, but for the one byte that a replacement goes by.
     pub fn time(&mut self, side: Side) -> f64 {
         let count = batch_of(side, self.call, &self.shape);
         let cats = &mut self.cats[..count];
         for cat in &mut *cats {
             cat.copy_from_slice(self.start);
         }
+        let mut answered = true;
         let clock = Instant::now();
         for cat in cats {
-            black_box(make(side, self.call, black_box(cat), &mut self.lent)).ok();
+            self.lent.put_letter();
+            answered &= black_box(make(side, self.call, black_box(cat), &mut self.lent)).is_ok();
         }
-        clock.elapsed().as_nanos() as f64 / count as f64
+        let time = clock.elapsed().as_nanos() as f64 / count as f64;
+        assert!(answered, "{} refuses {}", side.name(), self.call.name());
+        time
     }
 }
 
 /// The nanoseconds of one removal of the file with id 1, and its answer.
 pub fn time_removal(side: Side, cat: &[u8], disk: &mut [u8]) -> (f64, Result<u64, u8>) {
     let mut cat = cat.to_vec();
-    let mut lent = Lent { disk, content: &[], out: &mut [], id: 1 };
+    let mut lent = Lent { disk, raw: None, content: &[], out: &mut [], id: 1 };
     let clock = Instant::now();
     let answer = black_box(make(side, Call::Remove, black_box(&mut cat), &mut lent));
     (clock.elapsed().as_nanos() as f64, answer)
@@ -127,12 +131,14 @@ pub struct Row {
     pub to_twin: Spread,
     pub to_model: Spread,
     pub to_itself: Spread,
-    /// The builds that have the disk's version.
+    /// The builds that have the disk's version and the call.
     pub besides: Vec<Beside>,
 }
 
-/// Times a call on a disk, on every side and every build by turns. The disk is the one at a place of the tables.
+/// Times a call on a disk, on every side and every build that has it by turns. The disk is the one at a place of the
+/// tables.
 pub fn time_call(scene: &mut Scene, place: usize, call: Call, builds: &[&'static Build], rounds: usize) -> Row {
+    let builds: Vec<&'static Build> = builds.iter().copied().filter(|build| build.has(call)).collect();
     let mut batch = Batch::new(scene, call);
     let sides: Vec<Side> = Side::ALL.into_iter().chain(builds.iter().map(|build| Side::Beside(build))).collect();
     let times = interleaved(sides.len(), rounds, |side| batch.time(sides[side]));
@@ -144,7 +150,7 @@ pub fn time_call(scene: &mut Scene, place: usize, call: Call, builds: &[&'static
         to_twin: Spread::of_ratios(proved, twin),
         to_model: Spread::of_ratios(proved, model),
         to_itself: Spread::of_ratios(proved, again),
-        besides: Beside::of(builds, &times[Side::ALL.len()..], proved),
+        besides: Beside::of(&builds, &times[Side::ALL.len()..], proved),
     }
 }
 
@@ -176,6 +182,7 @@ mod tests {
         }
         assert_eq!(batch(Side::Twin, Call::Free, "1048576-8"), BATCH);
         assert_eq!(batch(Side::Twin, Call::Add, "1048576-8"), 1);
+        assert_eq!(batch(Side::Twin, Call::Replace, "1048576-64"), 2);
         assert_eq!(batch(Side::Proved, Call::ReadFile, "1048576-64"), 4);
         assert_eq!(batch(Side::Model, Call::Free, "1048576-64"), 1);
     }

@@ -1,4 +1,4 @@
-//! The commands that change a disk: format, add and remove.
+//! The commands that change a disk: format, add and remove, and what they share with replace.
 
 use crate::arguments::Arguments;
 use crate::commit::{self, go_on};
@@ -6,9 +6,9 @@ use crate::json::Json;
 use crate::paths::Paths;
 use crate::shift_log::Line;
 use crate::store::{self, Store};
-use crate::table::{blocks_of, counted, places};
+use crate::table::{blocks_of, copies, counted, lying};
 use crate::{date, files, Failure};
-use event_disk::{carries, File as Event, Listing, Version, BLOCK};
+use event_disk::{carries, File as Event, Listing, Refusal, Version, BLOCK};
 use std::io::Write;
 use std::path::Path;
 
@@ -63,7 +63,7 @@ fn first_there(paths: &Paths) -> Result<Option<&Path>, Failure> {
 /// Formats a disk whose image is not there: makes the image, then the catalogue.
 fn format_new(paths: Paths, asked: Option<u64>, large: bool) -> Result<Vec<u8>, Failure> {
     if files::is_there(&paths.redo)? {
-        let why = "a removal waits here for its image; bring the image back, or remove this file";
+        let why = "a removal or replacement waits here for its image; bring the image back, or remove this file";
         return Err(Failure::file(&paths.redo, why));
     }
     let blocks = asked.ok_or_else(|| Failure::usage("a new image needs --blocks C"))?;
@@ -100,25 +100,24 @@ pub fn add(arguments: &Arguments, out: &mut Vec<u8>) -> Result<(), Failure> {
     let mut disk = store.unread()?;
     let content = content(arguments.file(), event_disk::free(&disk.catalogue).unwrap_or(0))?;
     let answer = event_disk::add(&mut disk.catalogue, &mut disk.blocks, id, &content)?;
-    let pieces = event(&event_disk::list(&disk.catalogue)?, id).in_page_order();
+    let listing = event_disk::list(&disk.catalogue)?;
+    let pieces = event(&listing, id).in_page_order();
     commit::add(&store.paths, &store.image, &disk.blocks_of(&pieces), &disk.catalogue, &mut go_on)?;
-    let blocks = counted(answer, "block");
-    let words = format!("added {id}: {blocks} in {}: {}", counted(pieces.len() as u64, "piece"), places(&pieces));
     let json = [("id", Json::number(id)), ("blocks", Json::number(answer)), ("pieces", Json::pieces(&pieces))];
-    say(arguments, out, &words, Json::Object(json.into()))
+    say(arguments, out, &format!("added {id}: {}", lying(event(&listing, id))), Json::Object(json.into()))
 }
 
-/// The bytes of an event's file. Of one with more blocks than are free only so much is read as gives the same refusal:
-/// a block more than are free, and the same bytes past whole blocks.
-fn content(path: &Path, free: u64) -> Result<Vec<u8>, Failure> {
+/// The bytes of an event's file. Of one with more blocks than there is room for only so much is read as gives the same
+/// refusal: a block more than that, so at least the first, and the same bytes past whole blocks.
+pub fn content(path: &Path, room: u64) -> Result<Vec<u8>, Failure> {
     let file = files::open(path)?;
     let about = file.metadata().map_err(|why| Failure::file(path, why))?;
     let block = BLOCK as u64;
-    files::read_at_most(&file, path, (free + 1) * block + about.len() % block)
+    files::read_at_most(&file, path, (room + 1) * block + about.len() % block)
 }
 
 /// The event with an id that is known to be there.
-fn event(listing: &Listing, id: u16) -> &Event {
+pub fn event(listing: &Listing, id: u16) -> &Event {
     listing.files.iter().find(|event| event.id == id).expect("the call answered, so the id is there")
 }
 
@@ -126,21 +125,31 @@ fn event(listing: &Listing, id: u16) -> &Event {
 pub fn remove(arguments: &Arguments, out: &mut Vec<u8>) -> Result<(), Failure> {
     let id = arguments.id()?;
     let store = Store::to_change(arguments.paths())?;
+    let (line, _) = shift(&store, id, |cat, blocks| event_disk::remove(cat, blocks, id))?;
+    say(arguments, out, &format!("removed {id}: {}", copies(&line)), removal_json(&line, false))
+}
+
+/// Does a call that removes an event, for good or to put another in its place, and has it last. Gives its line of the
+/// shift log, and what the catalogue lists afterwards.
+pub fn shift(
+    store: &Store,
+    id: u16,
+    call: impl FnOnce(&mut [u8], &mut [u8]) -> Result<u64, Refusal>,
+) -> Result<(Line, Listing), Failure> {
     let mut disk = store.whole()?;
     let before = disk.catalogue.clone();
-    let copied = event_disk::remove(&mut disk.catalogue, &mut disk.blocks, id)?;
+    let copied = call(&mut disk.catalogue, &mut disk.blocks)?;
     let listing = event_disk::list(&before)?;
     let blocks = u64::from(event(&listing, id).blocks);
     let limit = carries(u64::from(listing.free), blocks);
     let line = Line { date: date::now(), id, blocks, copied, limit };
     let text = line.text();
     let redo = commit::written_down(&store.paths, &store.image, &before, &disk, &text)?;
-    commit::remove(&store.paths, &store.image, &redo, &mut go_on)?;
-    let words = format!("removed {id}: {} copied (contract limit {limit})", counted(copied, "block"));
-    say(arguments, out, &words, removal_json(&line, false))
+    commit::shift(&store.paths, &store.image, &redo, &mut go_on)?;
+    Ok((line, event_disk::list(&disk.catalogue)?))
 }
 
-/// The JSON of a removal, with its date where it comes from the shift log.
+/// The JSON of a removal, or of what a replacement removed, with its date where it comes from the shift log.
 pub fn removal_json(line: &Line, dated: bool) -> Json {
     let date = dated.then(|| ("date", Json::Text(line.date.clone())));
     let numbers = [

@@ -1,7 +1,7 @@
 //! The commands: their names, their arguments, their help and what does them.
 
 use crate::arguments::Arguments;
-use crate::{changing, help, looking, Failure};
+use crate::{changing, help, looking, replacing, Failure};
 use std::ffi::{OsStr, OsString};
 
 /// A command of the tool.
@@ -23,7 +23,7 @@ pub struct Command {
 }
 
 /// All commands, in the order of the help.
-pub static COMMANDS: [Command; 10] = [
+pub static COMMANDS: [Command; 11] = [
     Command {
         name: "format",
         places: &["IMAGE"],
@@ -50,6 +50,15 @@ pub static COMMANDS: [Command; 10] = [
         short: "remove an event and join free space",
         long: help::REMOVE,
         does: changing::remove,
+    },
+    Command {
+        name: "replace",
+        places: &["IMAGE", "ID", "FILE"],
+        valued: &[],
+        flags: &["--json"],
+        short: "put the reviewed event in FILE in the place of the raw one",
+        long: help::REPLACE,
+        does: replacing::replace,
     },
     Command {
         name: "read",
@@ -110,7 +119,7 @@ pub static COMMANDS: [Command; 10] = [
         places: &["IMAGE"],
         valued: &[],
         flags: &["--json"],
-        short: "show the shift log: what each removal copied",
+        short: "show the shift log: what each removal and replacement copied",
         long: help::LOG,
         does: looking::log,
     },

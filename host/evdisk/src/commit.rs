@@ -3,10 +3,11 @@
 //! An add writes only to blocks that are free in the catalogue before, so its pages go to the image first and the
 //! catalogue is replaced last, by a rename: that is the step that decides.
 //!
-//! A removal copies onto blocks that files hold in the catalogue before. So it is written down first as a redo file
-//! beside the image; the rename that gives that file its name is the step that decides. Then the blocks, the catalogue
-//! and the shift log are written and the redo file is removed. If it is found at the start of a command, all that is
-//! done again, which gives the same bytes however far it had come.
+//! A removal copies onto blocks that files hold in the catalogue before, and a replacement writes its pages to such
+//! blocks too. So either is written down first, whole, as a redo file beside the image; the rename that gives that file
+//! its name is the step that decides. Then the blocks, the catalogue and the shift log are written and the redo file is
+//! removed. If it is found at the start of a command, all that is done again, which gives the same bytes however far it
+//! had come.
 //!
 //! After each lasting write a watcher is asked whether to go on. The tool's always agrees; a test's stops there, as the
 //! supply may fail there.
@@ -45,7 +46,8 @@ pub fn add(paths: &Paths, image: &File, pages: &[Block], catalogue: &[u8], watch
     replace_catalogue(paths, catalogue, watch)
 }
 
-/// The removal that leads from the disk in the image, with its catalogue, to another, with its line of the shift log.
+/// The removal or replacement that leads from the disk in the image, with its catalogue, to another, with its line of
+/// the shift log.
 pub fn written_down<'a>(
     paths: &Paths,
     image: &File,
@@ -63,16 +65,16 @@ pub fn written_down<'a>(
     })
 }
 
-/// Makes a removal last: decides it, and then does it.
-pub fn remove(paths: &Paths, image: &File, redo: &Redo, watch: Watch) -> Result<(), Failure> {
+/// Makes a removal or replacement last: decides it, and then does it.
+pub fn shift(paths: &Paths, image: &File, redo: &Redo, watch: Watch) -> Result<(), Failure> {
     let done = decide(paths, redo, watch).and_then(|()| carry_out(paths, image, redo, watch));
     done.map_err(|failure| match files::is_there(&paths.redo) {
-        Ok(true) => failure.and("the removal is decided, and the next command completes it"),
+        Ok(true) => failure.and("the change is decided, and the next command completes it"),
         _ => failure,
     })
 }
 
-/// Writes the redo file and gives it its name, which decides the removal.
+/// Writes the redo file and gives it its name, which decides the change.
 fn decide(paths: &Paths, redo: &Redo, watch: Watch) -> Result<(), Failure> {
     files::write_by(&paths.redo_new, |file| redo.write(file))?;
     watch("redo file written")?;
@@ -80,7 +82,7 @@ fn decide(paths: &Paths, redo: &Redo, watch: Watch) -> Result<(), Failure> {
     watch("redo file named")
 }
 
-/// Does a removal that is decided, or does it again.
+/// Does what is decided, or does it again.
 fn carry_out(paths: &Paths, image: &File, redo: &Redo, watch: Watch) -> Result<(), Failure> {
     write_blocks(paths, image, &redo.changed, watch)?;
     replace_catalogue(paths, redo.catalogue, watch)?;
@@ -112,21 +114,21 @@ pub fn replace_catalogue(paths: &Paths, catalogue: &[u8], watch: Watch) -> Resul
     watch("catalogue named")
 }
 
-/// Completes a removal that was cut off after it was decided, if there is one, and clears away what was not decided.
-/// Says whether there was one.
+/// Completes a removal or replacement that was cut off after it was decided, if there is one, and clears away what was
+/// not decided. Says whether there was one.
 pub fn recover(paths: &Paths, image: &File, watch: Watch) -> Result<bool, Failure> {
     let pending = files::is_there(&paths.redo)?;
     if pending {
         let bytes = files::read_at_most(&files::open(&paths.redo)?, &paths.redo, redo::most())?;
-        carry_out(paths, image, &pending_removal(paths, image, &bytes)?, watch)?;
+        carry_out(paths, image, &pending_change(paths, image, &bytes)?, watch)?;
     }
     files::remove(paths, &paths.redo_new)?;
     files::remove(paths, &paths.catalogue_new)?;
     Ok(pending)
 }
 
-/// The removal in the bytes of the redo file, if that is whole and about this disk.
-fn pending_removal<'a>(paths: &Paths, image: &File, bytes: &'a [u8]) -> Result<Redo<'a>, Failure> {
+/// The change in the bytes of the redo file, if that is whole and about this disk.
+fn pending_change<'a>(paths: &Paths, image: &File, bytes: &'a [u8]) -> Result<Redo<'a>, Failure> {
     let wrong = |why: &str| Failure::file(&paths.redo, why).and("nothing was changed (see evdisk(1), RECOVERY)");
     let redo = Redo::of_bytes(bytes).ok_or_else(|| wrong("this redo file is damaged"))?;
     let disk = Disk::unread(paths, image)?;

@@ -23,6 +23,13 @@ values at which free blocks plus the event's blocks carry in binary. A line with
 that events hold are copied. Two free sections that are the halves of a longer one are joined first, without a copy:
 that mostly saves copies, but not at every removal, and the limit is what holds.";
 
+pub const REPLACE: &str = "\
+FILE is one or more records of 512 bytes, not necessarily as many as the old event has. Byte 6 of a record, counted from
+0, is its quality letter, ranked R, D, Q, M, lowest first: that of the first record in FILE must rank above that of the
+first record stored. Any other stored letter ranks below all. The disk is then as if the old event were removed and the
+new one added. Says what the removal copied and its limit, as remove does, and where the new event lies, as add does.
+The shift log gets a line for the removal, with the old event's blocks.";
+
 pub const READ: &str = "\
 Reads N pages from page P on; pages count from 0. Without --first it starts at page 0, without --pages it goes on to
 the event's end. With --output the pages go to FILE, which must not be there yet.";
@@ -44,16 +51,17 @@ letters have colours, unless NO_COLOR is set. With --svg the drawing goes to FIL
 yet, or is - for standard output.";
 
 pub const LOG: &str = "\
-Shows for each removal its date, the event's id and blocks, the blocks that were copied and the contract's limit.";
+Shows for each removal its date, the event's id and blocks, the blocks that were copied and the contract's limit. A
+replacement has the line of its removal: the blocks are those of the old event.";
 
 const REST: &str = "
 IMAGE holds the disk's blocks. Beside it stand IMAGE.cat, the catalogue; IMAGE.log, the shift log; and IMAGE.redo, only
-while a removal is under way. Keep them together. ID is a number from 1 to 65535.
+while a removal or replacement is under way. Keep them together. ID is a number from 1 to 65535.
 
 To a disk that is there each command is done whole or not at all, even if it is cut off: an add writes to free blocks
-and then replaces the catalogue in one step; a removal is first written down whole in IMAGE.redo, and a command that
-finds that file completes it. Not covered: a drive that says that bytes are written when they are not, and new files
-that a format, read or map was making. Two commands at once on one disk are kept apart by a lock.
+and then replaces the catalogue in one step; a removal or replacement is first written down whole in IMAGE.redo, and a
+command that finds that file completes it. Not covered: a drive that says that bytes are written when they are not, and
+new files that a format, read or map was making. Two commands at once on one disk are kept apart by a lock.
 
 Status: 0 done; 1 refused, with 'refused' and the number; 2 wrong command line; 3 a file could not be read or written.
 --json: the answer as JSON. evdisk COMMAND --help tells more about a command, and so does the manual page evdisk(1).

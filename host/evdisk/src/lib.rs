@@ -22,6 +22,7 @@ pub mod looking;
 pub mod map;
 pub mod paths;
 pub mod redo;
+pub mod replacing;
 pub mod shift_log;
 pub mod store;
 pub mod svg;

@@ -12,9 +12,9 @@ pub struct Paths {
     pub catalogue: PathBuf,
     /// A catalogue being written.
     pub catalogue_new: PathBuf,
-    /// A removal that is decided and not yet done whole.
+    /// A removal or replacement that is decided and not yet done whole.
     pub redo: PathBuf,
-    /// A removal being written down, not yet decided.
+    /// A removal or replacement being written down, not yet decided.
     pub redo_new: PathBuf,
     /// The shift log.
     pub log: PathBuf,

@@ -1,4 +1,4 @@
-//! A removal written down whole, so that it can be done again after it was cut off.
+//! A removal or replacement written down whole, so that it can be done again after it was cut off.
 //!
 //! The bytes of a redo file, numbers having 8 bytes, most significant first: the mark `EVDISKR2`; the blocks of the
 //! disk; the checksum of the catalogue before; the length of the catalogue after, and that catalogue; the length of the
@@ -28,12 +28,12 @@ pub fn most() -> u64 {
 /// A block: its number and its bytes.
 pub type Block<'a> = (u64, &'a [u8]);
 
-/// A removal that is decided.
+/// A removal or replacement that is decided.
 #[derive(Clone, Debug, PartialEq, Eq)]
 pub struct Redo<'a> {
     /// The blocks of the disk.
     pub blocks: u64,
-    /// The checksum of the catalogue before the removal.
+    /// The checksum of the catalogue before it.
     pub before: u64,
     /// The catalogue after it.
     pub catalogue: &'a [u8],
@@ -98,7 +98,7 @@ impl<'a> Redo<'a> {
         out.number(out.0.sum)
     }
 
-    /// The removal that a redo file holds, if the file is whole.
+    /// What a redo file holds, if the file is whole.
     pub fn of_bytes(bytes: &'a [u8]) -> Option<Redo<'a>> {
         let (body, sum) = bytes.split_at_checked(bytes.len().checked_sub(NUMBER)?)?;
         if checksum(body).to_be_bytes() != sum {

@@ -1,4 +1,5 @@
-//! The shift log: one line for each removal, with the blocks that it copied and the contract's limit for it.
+//! The shift log: one line for each removal, with the blocks that it copied and the contract's limit for it. A
+//! replacement has the line of its removal.
 
 use crate::{files, Failure};
 use std::fs::{File, OpenOptions};
@@ -7,11 +8,11 @@ use std::path::Path;
 /// A line of the shift log.
 #[derive(Clone, Debug, PartialEq, Eq)]
 pub struct Line {
-    /// When the file was removed.
+    /// When the file was removed or replaced.
     pub date: String,
     /// The file's id.
     pub id: u16,
-    /// The file's blocks.
+    /// The blocks of the file that was removed.
     pub blocks: u64,
     /// The blocks that the removal copied.
     pub copied: u64,

@@ -72,7 +72,7 @@ pub fn unread_blocks(paths: &Paths, image: &File) -> Result<Vec<u8>, Failure> {
     Ok(vec![0; files::length(image, &paths.image)?.min(most as u64) as usize])
 }
 
-/// An opened and locked disk with no unfinished removal. The lock ends with the command.
+/// An opened and locked disk with no unfinished change. The lock ends with the command.
 pub struct Store {
     pub paths: Paths,
     pub image: File,
@@ -89,7 +89,8 @@ impl Store {
         drop(image);
         let redo = paths.redo.clone();
         Store::to_change(paths).map_err(|failure| {
-            failure.and(&format!("a removal that was cut off is to be completed first, from {}", redo.display()))
+            let pending = "a removal or replacement that was cut off is to be completed first, from";
+            failure.and(&format!("{pending} {}", redo.display()))
         })
     }
 
@@ -98,7 +99,7 @@ impl Store {
         let image = files::open_to_write(&paths.image)?;
         locked(&paths.image, image.try_lock())?;
         if commit::recover(&paths, &image, &mut go_on)? {
-            let note = "completed a removal that had been cut off";
+            let note = "completed a removal or replacement that had been cut off";
             let _ = writeln!(std::io::stderr(), "evdisk: note: {}: {note}", paths.image.display());
         }
         Ok(Store { paths, image })

@@ -26,6 +26,18 @@ pub fn places(pieces: &[Piece]) -> String {
     places.join(" ")
 }
 
+/// Where an event lies: its blocks, and its pieces in page order.
+pub fn lying(event: &File) -> String {
+    let pieces = event.in_page_order();
+    let blocks = counted(u64::from(event.blocks), "block");
+    format!("{blocks} in {}: {}", counted(pieces.len() as u64, "piece"), places(&pieces))
+}
+
+/// What a removal, or that of a replacement, copied, and what the contract lets it copy.
+pub fn copies(line: &Line) -> String {
+    format!("{} copied (contract limit {})", counted(line.copied, "block"), line.limit)
+}
+
 /// The breaks of a file: its pieces less one.
 fn breaks(file: &File) -> u64 {
     file.pieces.len() as u64 - 1
@@ -65,7 +77,7 @@ pub fn listing_json(listing: &Listing) -> Json {
     ])
 }
 
-/// The removals of a shift log, a line for each.
+/// The removals of a shift log, those of replacements too, a line for each.
 pub fn shift_log(lines: &[Line]) -> String {
     let greatest = lines.iter().flat_map(|line| [line.blocks, line.copied, line.limit]).max();
     let wide = width(greatest.unwrap_or(0), 6);

@@ -19,6 +19,13 @@ pub fn remove(cat: &mut [u8], disk: &mut [u8], id: u16) -> i64 {
     unsafe { exports::evdisk_remove(cat.as_mut_ptr(), cat.len(), disk.as_mut_ptr(), disk.len(), id) }
 }
 
+pub fn replace(cat: &mut [u8], disk: &mut [u8], id: u16, content: &[u8]) -> i64 {
+    let (cat, cat_length) = (cat.as_mut_ptr(), cat.len());
+    let (disk, disk_length) = (disk.as_mut_ptr(), disk.len());
+    // SAFETY: as said above.
+    unsafe { exports::evdisk_replace(cat, cat_length, disk, disk_length, id, content.as_ptr(), content.len()) }
+}
+
 pub fn read(cat: &[u8], disk: &[u8], id: u16, first: u64, out: &mut [u8]) -> i64 {
     let (cat, cat_length) = (cat.as_ptr(), cat.len());
     let (disk, disk_length) = (disk.as_ptr(), disk.len());

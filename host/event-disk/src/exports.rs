@@ -12,6 +12,15 @@ extern "C" {
         content_length: usize,
     ) -> i64;
     pub fn evdisk_remove(cat: *mut u8, cat_length: usize, disk: *mut u8, disk_length: usize, id: u16) -> i64;
+    pub fn evdisk_replace(
+        cat: *mut u8,
+        cat_length: usize,
+        disk: *mut u8,
+        disk_length: usize,
+        id: u16,
+        content: *const u8,
+        content_length: usize,
+    ) -> i64;
     pub fn evdisk_read(
         cat: *const u8,
         cat_length: usize,

@@ -19,6 +19,10 @@
 //! assert_eq!(event_disk::read(&cat, &disk, 5, 2, &mut out)?, 1);
 //! assert_eq!(out, [7; event_disk::BLOCK]);
 //! assert_eq!(event_disk::read(&cat, &disk, 5, 3, &mut out), Err(event_disk::Refusal::PastEnd));
+//! // byte 6 is the quality letter: M ranks above any other, and not above M
+//! let reviewed = [b'M'; event_disk::BLOCK];
+//! assert_eq!(event_disk::replace(&mut cat, &mut disk, 5, &reviewed)?, 0);
+//! assert_eq!(event_disk::replace(&mut cat, &mut disk, 5, &reviewed), Err(event_disk::Refusal::LetterNotAbove));
 //!
 //! let mut large = [0; Version::LARGE.catalogue];
 //! let disk = vec![0; 5000 * event_disk::BLOCK];
@@ -73,6 +77,14 @@ pub fn add(cat: &mut [u8], disk: &mut [u8], id: u16, content: &[u8]) -> Result<u
 /// of a removal the least that there could be.
 pub fn remove(cat: &mut [u8], disk: &mut [u8], id: u16) -> Result<u64, Refusal> {
     answer(archive::remove(cat, disk, id))
+}
+
+/// Puts a file with the pages of `content` in the place of the one with this id, as [`remove`] and then [`add`] would,
+/// and answers how many blocks the removal copied: at most [`carries`] of the free blocks and the old file's. Byte 6 of
+/// the content, its quality letter, has to rank above that of the old file's first page: R, D, Q, M, lowest first, and
+/// below these any other byte that is stored. The new file may have the free blocks and those of the old one.
+pub fn replace(cat: &mut [u8], disk: &mut [u8], id: u16, content: &[u8]) -> Result<u64, Refusal> {
+    answer(archive::replace(cat, disk, id, content))
 }
 
 /// Fills `out` with pages of a file from the page `first` on, and answers how many pages that is. Pages count from 0.

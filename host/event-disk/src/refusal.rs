@@ -27,13 +27,17 @@ pub enum Refusal {
     PastEnd = 9,
     /// There are 64 files already.
     FilesFull = 10,
-    /// There are fewer free blocks than the content has.
+    /// There are fewer free blocks than the content has. For a replacement the blocks of the old file count as free.
     NoSpace = 11,
+    /// The first record's quality letter, byte 6, is none of R, D, Q, M (replace alone, and before 11).
+    LetterUnknown = 12,
+    /// The quality letter does not rank above that of the stored file (replace alone, and before 11).
+    LetterNotAbove = 13,
 }
 
 impl Refusal {
     /// All refusals by rising number.
-    pub const ALL: [Refusal; 11] = [
+    pub const ALL: [Refusal; 13] = [
         Refusal::CatalogueLength,
         Refusal::NoDisk,
         Refusal::NotSound,
@@ -45,6 +49,8 @@ impl Refusal {
         Refusal::PastEnd,
         Refusal::FilesFull,
         Refusal::NoSpace,
+        Refusal::LetterUnknown,
+        Refusal::LetterNotAbove,
     ];
 
     /// The number that the documents give this refusal.
@@ -74,6 +80,8 @@ impl fmt::Display for Refusal {
             Refusal::PastEnd => "the pages go past the end of the file",
             Refusal::FilesFull => "there are 64 files already",
             Refusal::NoSpace => "there are fewer free blocks than the file needs",
+            Refusal::LetterUnknown => "the new file's quality letter is none of R, D, Q and M",
+            Refusal::LetterNotAbove => "the new file's quality letter does not rank above the stored one",
         })
     }
 }
@@ -106,7 +114,7 @@ mod tests {
     fn each_number_has_its_refusal() {
         for number in 0..=u64::from(u8::MAX) + 1 {
             let found = Refusal::of_number(number).map(|refusal| u64::from(refusal.number()));
-            assert_eq!(found, (1..=11).contains(&number).then_some(number));
+            assert_eq!(found, (1..=13).contains(&number).then_some(number));
         }
     }
 }

@@ -20,6 +20,10 @@ pub fn remove(cat: &mut [u8], disk: &mut [u8], id: u16) -> i64 {
     number(twin::remove(cat, disk, id))
 }
 
+pub fn replace(cat: &mut [u8], disk: &mut [u8], id: u16, content: &[u8]) -> i64 {
+    number(twin::replace(cat, disk, id, content))
+}
+
 pub fn read(cat: &[u8], disk: &[u8], id: u16, first: u64, out: &mut [u8]) -> i64 {
     number(twin::read(cat, disk, id, first, out))
 }

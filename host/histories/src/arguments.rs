@@ -18,7 +18,7 @@ but by the blocks that the call touched, and whole at intervals.
   --seed S    the number that fixes a run, 1 if not given
   --calls N   how many random calls at least, 200000 if not given; the calls on large disks are more in proportion
   --long      ten million random calls, and long lists of which one in each version has a million
-  --depth D   how many adds and removes a list has at most; chosen for each disk if not given
+  --depth D   how many adds, removes and replaces a list has at most; chosen for each disk if not given
   --count N   how many damaged catalogues, 200000 if not given
   --help      this text
 

@@ -4,14 +4,17 @@ use std::fmt;
 
 use model::{Version, BLOCK};
 
+use crate::letters;
 use crate::numbers::mix;
 
-/// A call and its arguments. Contents and outputs are given by their length in bytes.
+/// A call and its arguments. Contents and outputs are given by their length in bytes, and contents by the byte that
+/// their first page has in the place of its quality letter.
 #[derive(Clone, Copy, Debug, PartialEq, Eq)]
 pub enum Call {
     Format,
-    Add { id: u16, length: usize },
+    Add { id: u16, length: usize, letter: u8 },
     Remove { id: u16 },
+    Replace { id: u16, length: usize, letter: u8 },
     Read { id: u16, first: u64, length: usize },
     Breaks { id: u16 },
     Free,
@@ -19,7 +22,7 @@ pub enum Call {
 }
 
 /// The names of the calls in the order of `Call::number`.
-pub const NAMES: [&str; 7] = ["format", "add", "remove", "read", "breaks", "free", "check"];
+pub const NAMES: [&str; 8] = ["format", "add", "remove", "replace", "read", "breaks", "free", "check"];
 
 impl Call {
     /// The place of the call in `NAMES`.
@@ -28,10 +31,39 @@ impl Call {
             Call::Format => 0,
             Call::Add { .. } => 1,
             Call::Remove { .. } => 2,
-            Call::Read { .. } => 3,
-            Call::Breaks { .. } => 4,
-            Call::Free => 5,
-            Call::Check => 6,
+            Call::Replace { .. } => 3,
+            Call::Read { .. } => 4,
+            Call::Breaks { .. } => 5,
+            Call::Free => 6,
+            Call::Check => 7,
+        }
+    }
+
+    /// The id of the file that an answer of the call takes out.
+    pub fn removed(&self) -> Option<u16> {
+        match self {
+            Call::Remove { id } | Call::Replace { id, .. } => Some(*id),
+            _ => None,
+        }
+    }
+
+    /// The id of the file that an answer of the call puts on the disk.
+    pub fn placed(&self) -> Option<u16> {
+        match self {
+            Call::Add { id, .. } | Call::Replace { id, .. } => Some(*id),
+            _ => None,
+        }
+    }
+
+    /// Whether an answer of the call changes catalogue or disk.
+    pub fn changes(&self) -> bool {
+        *self == Call::Format || self.removed().is_some() || self.placed().is_some()
+    }
+
+    /// Fills a buffer with the content of the call, if it has one. The call has a number.
+    pub fn stamp(&self, content: &mut Vec<u8>, number: u64) {
+        if let Call::Add { id, length, letter } | Call::Replace { id, length, letter } = *self {
+            stamp(content, number, id, length, letter);
         }
     }
 
@@ -48,7 +80,9 @@ impl fmt::Display for Call {
     fn fmt(&self, f: &mut fmt::Formatter<'_>) -> fmt::Result {
         f.write_str(NAMES[self.number()])?;
         match self {
-            Call::Add { id, length } => write!(f, " id {id}, content of {length} bytes"),
+            Call::Add { id, length, letter } | Call::Replace { id, length, letter } => {
+                write!(f, " id {id}, content of {length} bytes with the letter '{}'", letter.escape_ascii())
+            }
             Call::Remove { id } | Call::Breaks { id } => write!(f, " id {id}"),
             Call::Read { id, first, length } => write!(f, " id {id}, first page {first}, output of {length} bytes"),
             Call::Format | Call::Free | Call::Check => Ok(()),
@@ -77,15 +111,19 @@ impl fmt::Display for Lent {
 }
 
 /// Fills a buffer with a content of some bytes, whose pages all differ: they are stamped with the number of the call,
-/// the id and the page.
-pub fn stamp(content: &mut Vec<u8>, call: u64, id: u16, length: usize) {
+/// the id and the page. The first page has the letter, and each later one a letter of its own.
+pub fn stamp(content: &mut Vec<u8>, call: u64, id: u16, length: usize, letter: u8) {
     content.resize(length, 0);
     for (page, bytes) in content.chunks_mut(BLOCK).enumerate() {
         // 22 bits for the page, 16 for the id, the others for the call.
         let mut word = mix(call << 38 ^ u64::from(id) << 22 ^ page as u64);
+        let letter = if page == 0 { letter } else { letters::RANKED[word as usize % letters::RANKED.len()] };
         for place in bytes.chunks_mut(8) {
             place.copy_from_slice(&word.to_le_bytes()[..place.len()]);
             word = word.wrapping_add(0x9E37_79B9_7F4A_7C15);
+        }
+        if let Some(byte) = bytes.get_mut(letters::PLACE) {
+            *byte = letter;
         }
     }
 }

@@ -2,15 +2,15 @@
 
 use model::{Catalogue, Version, BLOCK};
 
-use crate::call::{stamp, Call, Lent};
-use crate::history::History;
-use crate::layouts::{any_sound, staircase};
-use crate::lengths;
+use crate::call::{Call, Lent};
+use crate::layouts::any_sound;
+use crate::letters;
 use crate::numbers::Numbers;
 use crate::spoil::spoil;
 use crate::tally::Tally;
 use crate::twin::{told, Difference, Twin};
 use crate::twists::twisted;
+use crate::{lengths, staircases};
 
 /// The catalogues of one size: C is up to so many blocks, and the buffers of the disk have so many.
 #[derive(Clone, Copy)]
@@ -68,7 +68,9 @@ fn in_version(version: Version, count: u64, numbers: &mut Numbers, counts: &mut 
         let size = numbers.pick_by(sizes.iter().map(|size| size.share));
         one_catalogue(sizes[size], &mut twins[size], numbers, counts)?;
     }
-    staircases(version, numbers, counts).map_err(|difference| format!("the removals that copy most: {difference}"))
+    let most = staircases::run(version, numbers, &mut counts.tally);
+    counts.untouched += most.map_err(|difference| format!("the removals that copy most: {difference}"))?;
+    Ok(())
 }
 
 impl Counts {
@@ -88,7 +90,7 @@ fn twin_of(version: Version, blocks: usize, numbers: &mut Numbers) -> Twin {
 }
 
 /// The bytes of a catalogue in the buffer of a version, which need not be its own.
-fn bytes_in(version: Version, catalogue: &Catalogue) -> Vec<u8> {
+pub fn bytes_in(version: Version, catalogue: &Catalogue) -> Vec<u8> {
     let mut bytes = vec![0; version.catalogue];
     model::write(catalogue, &mut bytes);
     bytes
@@ -122,37 +124,15 @@ fn one_catalogue(size: Size, twin: &mut Twin, numbers: &mut Numbers, counts: &mu
     let mut content = Vec::new();
     for call in calls {
         twin.set_catalogue(&bytes);
-        if let Call::Add { id, length } = call {
-            stamp(&mut content, counts.tally.calls, id, length);
-        }
+        call.stamp(&mut content, counts.tally.calls);
         one_call(twin, lent, &call, &content, meaning.as_ref(), &mut counts.tally)
             .map_err(|difference| format!("{call}, C {blocks}: {difference}"))?;
     }
     Ok(())
 }
 
-/// The removals that copy most: 2^top - 1 blocks, and so as many as they may. The disks have up to the greatest C, and
-/// those that are long are compared by the blocks that the removal touched, and then whole once.
-fn staircases(version: Version, numbers: &mut Numbers, counts: &mut Counts) -> Result<(), Difference> {
-    let greatest = u32::from(version.most_height()) - 1;
-    for top in (1..greatest.min(12)).chain([greatest]) {
-        let catalogue = staircase(version, top);
-        let blocks = catalogue.blocks as usize;
-        let mut history = History::new(version, blocks, numbers);
-        history.twin.set_catalogue(&bytes_in(version, &catalogue));
-        let (before, right) = (counts.tally.at_bound(), history.right());
-        one_call(&mut history.twin, right, &Call::Remove { id: 1 }, &[], Some(&catalogue), &mut counts.tally)?;
-        history.twin.compare_disks()?;
-        if counts.tally.at_bound() != before + 1 {
-            return Err(format!("on {blocks} blocks the limit is not reached"));
-        }
-        counts.untouched += 1;
-    }
-    Ok(())
-}
-
 /// Makes a call on both. It is refused with 3 exactly if the bytes mean no catalogue.
-fn one_call(
+pub fn one_call(
     twin: &mut Twin,
     lent: Lent,
     call: &Call,
@@ -166,24 +146,27 @@ fn one_call(
     if (answer == Err(3)) != meaning.is_none() {
         return Err(format!("{} though the bytes mean {meaning:?}", told(answer)));
     }
-    if let (Call::Remove { id }, Ok(copied), Some(catalogue)) = (call, answer, meaning) {
-        let n = catalogue.entry(*id).map_or(0, |entry| u64::from(entry.blocks));
-        tally.count_removal(twin.merges().check(u64::from(catalogue.free_blocks()), n, copied)?);
+    if let (Some(id), Ok(copied), Some(catalogue)) = (call.removed(), answer, meaning) {
+        let n = catalogue.entry(id).map_or(0, |entry| u64::from(entry.blocks));
+        tally.count_removal(call, twin.merges().check(u64::from(catalogue.free_blocks()), n, copied)?);
     }
     Ok(())
 }
 
 /// Each call once, with arguments that a sound catalogue answers mostly. Contents and outputs fit the lent disk.
-fn calls(catalogue: &Catalogue, disk: usize, numbers: &mut Numbers) -> [Call; 6] {
+fn calls(catalogue: &Catalogue, disk: usize, numbers: &mut Numbers) -> [Call; 7] {
     let ids: Vec<u16> = catalogue.entries.iter().map(|entry| entry.id).collect();
     let unheld = numbers.field();
     let id = if ids.is_empty() || numbers.one_in(10) { unheld } else { numbers.pick(&ids) };
     let n = catalogue.entry(id).map_or(1, |entry| entry.blocks.max(1) as usize);
     let first = numbers.within(0, n - 1);
     let count = numbers.within(1, (n - first).min(disk));
-    let pages = numbers.within(1, (catalogue.free_blocks() as usize).clamp(1, disk));
+    let f = catalogue.free_blocks() as usize;
+    let pages = numbers.within(1, f.clamp(1, disk));
+    let replaced = numbers.within(1, (f + n + 1).min(disk));
     [
-        Call::Add { id: unheld, length: pages * BLOCK },
+        Call::Add { id: unheld, length: pages * BLOCK, letter: letters::low(numbers) },
+        Call::Replace { id, length: replaced * BLOCK, letter: letters::any(numbers) },
         Call::Remove { id },
         Call::Read { id, first: first as u64, length: count * BLOCK },
         Call::Breaks { id },

@@ -40,13 +40,8 @@ impl History {
 
     /// Makes a call of the list. The number of the call goes into the pages that it adds.
     pub fn step(&mut self, call: &Call, lent: Lent, number: u64, tally: &mut Tally) -> Result<Answer, Difference> {
-        if let Call::Add { id, length } = *call {
-            stamp(&mut self.content, number, id, length);
-        }
-        let (f, n) = match *call {
-            Call::Remove { id } => (self.book.free(), self.book.pages(id)),
-            _ => (0, 0),
-        };
+        call.stamp(&mut self.content, number);
+        let (f, n) = (self.book.free(), call.removed().map_or(0, |id| self.book.pages(id)));
         tally.begin(call);
         let answer = self.twin.call(call, lent, &self.content)?;
         tally.end(call, answer);
@@ -55,13 +50,14 @@ impl History {
         }
         follow(&mut self.book, call, &self.content, &self.twin, answer)?;
         self.followed = if *call == Call::Format { 0 } else { self.followed + 1 };
-        match (call, answer) {
-            (Call::Remove { .. }, Ok(copied)) => tally.count_removal(self.twin.merges().check(f, n, copied)?),
-            (Call::Format | Call::Add { .. }, Ok(_)) => {}
-            // The bytes were found to be the second implementation's, which it only borrows to look at.
-            _ => return Ok(answer),
+        if let (Some(_), Ok(copied)) = (call.removed(), answer) {
+            tally.count_removal(call, self.twin.merges().check(f, n, copied)?);
         }
-        compare_touched(&self.book, &self.twin).map(|()| answer)
+        match answer {
+            Ok(_) if call.changes() => compare_touched(&self.book, &self.twin).map(|()| answer),
+            // The bytes were found to be the second implementation's, which it only borrows to look at.
+            _ => Ok(answer),
+        }
     }
 
     /// Compares all bytes of the disks, and the pages of all files.
@@ -70,18 +66,19 @@ impl History {
         compare_state(&self.book, &self.twin)
     }
 
-    /// Goes back to bytes and lines that a list of calls led to; the lines are pages stamped without a call's number.
+    /// Goes back to bytes and lines that a list of calls led to; the lines are pages stamped without a call's number,
+    /// and have letters.
     pub fn return_to(
         &mut self,
         cat: &[u8],
         disk: &[u8],
-        lines: impl Iterator<Item = (u16, usize)>,
+        lines: impl Iterator<Item = (u16, usize, u8)>,
     ) -> Result<(), Difference> {
         self.twin.set_catalogue(cat);
         self.twin.set_disk(disk);
         self.book = Book::new(self.blocks as u64);
-        for (id, n) in lines {
-            stamp(&mut self.content, 0, id, n * BLOCK);
+        for (id, n, letter) in lines {
+            stamp(&mut self.content, 0, id, n * BLOCK, letter);
             self.book.add(id, &self.content).map_err(|number| format!("the book refused {number}"))?;
         }
         Ok(())
@@ -100,9 +97,7 @@ impl History {
     pub fn step_spoilt(&mut self, call: &Call, spoilt: &[u8], tally: &mut Tally) -> Result<Answer, Difference> {
         let before = self.twin.catalogue().to_vec();
         self.twin.set_catalogue(spoilt);
-        if let Call::Add { length, .. } = *call {
-            self.content.resize(length, 0);
-        }
+        call.stamp(&mut self.content, 0);
         tally.begin(call);
         let answer = self.twin.call(call, self.right(), &self.content)?;
         tally.end(call, answer);

@@ -2,9 +2,10 @@
 //! The disks of 4,097 and 5,000 blocks are not here: `random.rs` compares them whole after every call.
 //!
 //! After every call the answer, the catalogue, the output and the blocks of `touched.rs` are compared, and after an
-//! add or a removal the pages of each file of which it touched a block. All bytes of the disks, and the pages of all
-//! files, are compared after every `INTERVAL` calls and at the end of each list. That a refused call has changed no
-//! byte is found at once of the catalogue and the output, and of the disk by the window and at the intervals.
+//! add, a removal or a replacement the pages of each file of which it touched a block. All bytes of the disks, and the
+//! pages of all files, are compared after every `INTERVAL` calls and at the end of each list. That a refused call has
+//! changed no byte is found at once of the catalogue and the output, and of the disk by the window and at the
+//! intervals.
 
 use model::{Version, BLOCK};
 
@@ -92,16 +93,24 @@ fn one_list(
     Ok(())
 }
 
-/// Calls on the greatest disk that each run has: a file of 300,000 pages, one of the most pieces, one of all blocks.
+/// Calls on the greatest disk that each run has: a file of 300,000 pages, which is replaced by one of the most pieces
+/// and by one of one block, one of the most pieces, one of all blocks.
 fn landmarks(numbers: &mut Numbers, counts: &mut Counts) -> Result<(), Difference> {
     let most = Version::LARGE.most_blocks;
     let mut history = History::new(Version::LARGE, most, numbers);
-    let add = |id, pages| Call::Add { id, length: pages * BLOCK };
+    let add = |id, pages| Call::Add { id, length: pages * BLOCK, letter: b'R' };
+    let replace = |id, pages, letter| Call::Replace { id, length: pages * BLOCK, letter };
     let read = |id, pages| Call::Read { id, first: 0, length: pages * BLOCK };
     let calls = [
         (Call::Format, Ok(most)),
         (add(1, 300_000), Ok(300_000)),
         (read(1, 300_000), Ok(300_000)),
+        (replace(1, most + 1, b'D'), Err(11)),
+        (replace(1, most - 1, b'D'), Ok(0)),
+        (Call::Breaks { id: 1 }, Ok(19)),
+        (replace(1, most + 1, b'R'), Err(13)),
+        (replace(1, most + 1, b'?'), Err(12)),
+        (replace(1, 1, b'M'), Ok(0)),
         (Call::Remove { id: 1 }, Ok(0)),
         (add(2, most - 1), Ok(most - 1)),
         (Call::Breaks { id: 2 }, Ok(19)),
@@ -153,15 +162,16 @@ impl Counts {
         self.tally.print_removals();
     }
 
-    /// There were 64 files at once, as many pieces as a file can have, no space, copies, free blocks not copied, and
-    /// free buddies that were merged though the two lowest free sections were others.
+    /// There were 64 files at once, as many pieces as a file can have, no space, letters that do not replace, copies,
+    /// free blocks not copied, and free buddies that were merged though the two lowest free sections were others.
     fn saw_enough(&self) -> bool {
         let seen = [
             ("64 files", self.most_files == model::MOST_FILES),
             ("a file of the most pieces", self.most_pieces == u32::from(Version::LARGE.most_height())),
             ("refusal 11", self.tally.refused(11) > 0),
             ("refusal 10", self.tally.refused(10) > 0),
-            ("a removal that copied", self.tally.copied() > 0),
+            ("refusals 12 and 13", self.tally.refused(12) > 0 && self.tally.refused(13) > 0),
+            ("a removal that copied, and a replacement", !self.tally.copied().contains(&0)),
             ("a buddy with free blocks that moved", self.tally.spared() > 0),
             ("free buddies that were not the two lowest", self.tally.passing() > 0),
         ];

@@ -2,16 +2,18 @@
 
 use model::{Version, BLOCK};
 
-use crate::call::{stamp, Call, Lent};
+use crate::call::{Call, Lent};
 use crate::history::MOST_WHOLE;
+use crate::letters;
 use crate::numbers::Numbers;
 use crate::tally::Tally;
 use crate::twin::{told, Difference, Twin};
 
 /// The disks: the smallest, some, and those around the greatest of the small catalogue.
 const DISKS: [usize; 6] = [1, 2, 21, 4095, 4096, 4097];
-/// The file that is there.
+/// The file that is there, and its quality letter.
 const HELD: u16 = 7;
+const STORED: u8 = b'D';
 
 /// Makes every call with buffers of every length around each limit. False if there was a difference.
 pub fn run(numbers: &mut Numbers) -> bool {
@@ -62,18 +64,16 @@ fn on_disk(version: Version, blocks: usize, numbers: &mut Numbers, tally: &mut T
     let right = Lent::right(version, blocks);
     let held = blocks.div_ceil(3);
     let mut content = Vec::new();
-    stamp(&mut content, 0, HELD, held * BLOCK);
-    let add = Call::Add { id: HELD, length: content.len() };
+    let add = Call::Add { id: HELD, length: held * BLOCK, letter: STORED };
     for call in [Call::Format, add] {
         tally.begin(&call);
+        call.stamp(&mut content, 0);
         tally.end(&call, twin.call(&call, right, &content)?);
     }
-    let formatted = twin.catalogue().to_vec();
+    let (formatted, disk) = (twin.catalogue().to_vec(), twin.disk(blocks).to_vec());
     for lent in lent_lengths(version, blocks) {
         for call in calls(blocks - held, held, lent == right) {
-            if let Call::Add { id, length } = call {
-                stamp(&mut content, tally.calls, id, length);
-            }
+            call.stamp(&mut content, tally.calls);
             let told = |difference| format!("{call} ({lent}): {difference}");
             tally.begin(&call);
             let answer = twin.call(&call, lent, &content).map_err(told)?;
@@ -81,7 +81,10 @@ fn on_disk(version: Version, blocks: usize, numbers: &mut Numbers, tally: &mut T
             if (answer == Err(1)) != Version::of_length(lent.cat).is_none() {
                 return Err(told(format!("{answer:?} by the length of the catalogue")));
             }
-            twin.set_catalogue(&formatted);
+            if answer.is_ok() && call.changes() {
+                twin.set_catalogue(&formatted);
+                twin.set_disk(&disk);
+            }
         }
     }
     Ok(())
@@ -113,14 +116,19 @@ fn lent_lengths(version: Version, blocks: usize) -> Vec<Lent> {
 fn calls(free: usize, held: usize, lent_right: bool) -> Vec<Call> {
     let around = |pages: usize| [pages * BLOCK, pages * BLOCK + 1, (pages + 1) * BLOCK - 1, (pages + 1) * BLOCK];
     let (lengths, firsts) = match lent_right {
-        true => ([around(0), around(1), around(free), around(held)].concat(), vec![0, 1, held as u64, u64::MAX]),
+        true => {
+            let lengths = [around(0), around(1), around(free), around(held), around(free + held)].concat();
+            let short = [letters::PLACE, letters::PLACE + 1];
+            (lengths.into_iter().chain(short).collect(), vec![0, 1, held as u64, u64::MAX])
+        }
         false => (vec![0, BLOCK], vec![0]),
     };
     let mut calls = vec![Call::Format, Call::Free, Call::Check];
     for id in [0, HELD, 8] {
         calls.extend([Call::Breaks { id }, Call::Remove { id }]);
         for &length in &lengths {
-            calls.push(Call::Add { id, length });
+            calls.push(Call::Add { id, length, letter: STORED });
+            calls.extend([b'M', STORED, b'?'].map(|letter| Call::Replace { id, length, letter }));
             calls.extend(firsts.iter().map(|&first| Call::Read { id, first, length }));
         }
     }

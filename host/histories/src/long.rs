@@ -36,10 +36,26 @@ pub struct List {
     /// The turns that are left of a round.
     turns: Vec<Mix>,
     tally: Tally,
-    /// How often the disk became full, came to have no file, and came to have the most files.
+    seen: Seen,
+}
+
+/// How often something became of the disk of a list.
+#[derive(Default)]
+struct Seen {
+    /// It became full, came to have no file, and came to have the most files.
     full: u64,
     empty: u64,
     most_files: u64,
+    /// A file was replaced while there were the most files, and while no block was free.
+    replaced_of_most: u64,
+    replaced_in_full: u64,
+}
+
+/// What a list is at before a call.
+struct State {
+    files: usize,
+    free: u64,
+    replaced: u64,
 }
 
 /// Runs the lists; the longest of each version have at least so many calls. False if there was a difference, a list was
@@ -79,7 +95,7 @@ impl List {
     /// A list before its format.
     pub fn new(version: Version, blocks: usize, numbers: &mut Numbers) -> List {
         let (history, ids) = (History::new(version, blocks, numbers), ids(numbers));
-        List { history, ids, turns: Vec::new(), tally: Tally::default(), full: 0, empty: 0, most_files: 0 }
+        List { history, ids, turns: Vec::new(), tally: Tally::default(), seen: Seen::default() }
     }
 
     /// Runs the list until it has so many calls. It is an error if something differs, or if one stretch of so many
@@ -113,26 +129,32 @@ impl List {
         Ok(())
     }
 
-    /// The files and the free blocks.
-    fn state(&self) -> (usize, u64) {
-        (self.history.book.lines().len(), self.history.book.free())
+    /// The files, the free blocks, and the replacements so far.
+    fn state(&self) -> State {
+        let book = &self.history.book;
+        State { files: book.lines().len(), free: book.free(), replaced: self.tally.replaced() }
     }
 
-    /// Notes what became of a disk with so many files and free blocks.
-    fn note(&mut self, (files_before, free_before): (usize, u64)) {
-        let (files, free) = self.state();
-        self.full += u64::from(free == 0 && free_before > 0);
-        self.empty += u64::from(files == 0 && files_before > 0);
-        self.most_files += u64::from(files == MOST_FILES && files_before < MOST_FILES);
+    /// Notes what became of a disk by a call.
+    fn note(&mut self, before: State) {
+        let State { files, free, replaced } = self.state();
+        let (seen, replaced) = (&mut self.seen, replaced > before.replaced);
+        seen.full += u64::from(free == 0 && before.free > 0);
+        seen.empty += u64::from(files == 0 && before.files > 0);
+        seen.most_files += u64::from(files == MOST_FILES && before.files < MOST_FILES);
+        seen.replaced_of_most += u64::from(replaced && before.files == MOST_FILES);
+        seen.replaced_in_full += u64::from(replaced && before.free == 0);
     }
 
     /// What has to be seen, and how often it was.
     fn events(&self) -> Vec<Event> {
         let mut events = self.tally.events();
         let disk = [
-            ("the last free block taken", self.full),
-            ("the last file removed", self.empty),
-            ("the 64th file added", self.most_files),
+            ("the last free block taken", self.seen.full),
+            ("the last file removed", self.seen.empty),
+            ("the 64th file added", self.seen.most_files),
+            ("one of 64 files replaced", self.seen.replaced_of_most),
+            ("a file replaced with no block free", self.seen.replaced_in_full),
             // At least: each of the ids can be used for the first time once.
             ("an id used again", self.tally.adds().saturating_sub(self.ids.len() as u64)),
         ];

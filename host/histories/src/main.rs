@@ -2,6 +2,8 @@
 
 #![forbid(unsafe_code)]
 
+mod alphabet;
+mod apart;
 mod arguments;
 mod before;
 mod call;
@@ -10,16 +12,22 @@ mod history;
 mod large;
 mod layouts;
 mod lengths;
+mod letters;
 mod long;
 mod merges;
 mod mixes;
 mod numbers;
 mod random;
+mod removals;
+#[cfg(test)]
+mod replace_tests;
 mod scenes;
 mod sides;
 mod small;
 mod spoil;
 mod stack;
+mod staircases;
+mod states;
 mod tally;
 #[cfg(test)]
 mod tests;
@@ -27,6 +35,7 @@ mod touched;
 mod twin;
 mod twists;
 mod watch;
+mod wild;
 
 use std::process::ExitCode;
 use std::time::Instant;

@@ -1,12 +1,12 @@
-//! The merges of a removal by the second implementation's account: that the right two free sections are taken each
-//! time, and what is copied for it.
+//! The merges of a removal, or of a replacement, by the second implementation's account: that the right two free
+//! sections are taken each time, and what is copied for it.
 
 use model::{buddies_first, two_lowest, Merge, Move};
 
 use crate::twin::Difference;
 use crate::watch::require;
 
-/// What a removal merges. One that is refused merges nothing.
+/// What a removal merges, or that of a replacement. That of no file merges nothing.
 #[derive(Default)]
 pub struct Merges {
     all: Vec<Merge>,
@@ -14,7 +14,7 @@ pub struct Merges {
     by_lowest: u64,
 }
 
-/// A removal that was answered.
+/// A removal that was answered, or that of a replacement.
 #[derive(Clone, Copy, Debug, PartialEq, Eq)]
 pub struct Copied {
     /// How many blocks it copied, and how many the buddies have that it moved.

@@ -1,9 +1,10 @@
 //! Which call comes next in a random history.
 
-use model::{Book, Version, BLOCK, MOST_FILES};
+use model::{Book, BLOCK, MOST_FILES};
 
-use crate::call::{Call, Lent};
+use crate::call::Call;
 use crate::history::{History, MOST_WHOLE};
+use crate::letters;
 use crate::numbers::Numbers;
 
 /// What a history is rich in.
@@ -13,7 +14,7 @@ pub enum Mix {
     Swarm,
     /// Files that fill the disk to its last block.
     Full,
-    /// 64 files, and attempts at more.
+    /// 64 files, and attempts at more. A file that leaves no space for others goes soon.
     Many,
     /// Any lengths.
     Any,
@@ -36,7 +37,7 @@ pub fn ids(numbers: &mut Numbers) -> Vec<u16> {
 }
 
 /// The ids of the lines.
-fn held(book: &Book) -> Vec<u16> {
+pub fn held(book: &Book) -> Vec<u16> {
     book.lines().map(|(id, _)| id).collect()
 }
 
@@ -49,8 +50,15 @@ pub fn next_call(mix: Mix, ids: &[u16], history: &History, numbers: &mut Numbers
     if numbers.one_in(6) {
         return next_look(&held, &history.book, numbers);
     }
+    let filling = matches!(mix, Mix::Many) && held.len() < MOST_FILES;
+    if numbers.one_in(if filling { 15 } else { 5 }) {
+        return next_replacement(mix, &held, history, numbers);
+    }
+    if filling && numbers.one_in(2) && history.book.free() <= history.book.check() / MOST_FILES as u64 {
+        return Call::Remove { id: longest(&history.book) };
+    }
     let adds = match mix {
-        Mix::Many if held.len() < MOST_FILES => 80,
+        _ if filling => 90,
         Mix::Full if history.book.free() > 0 => 70,
         Mix::Empty => 15,
         _ if history.book.free() == 0 => 10,
@@ -62,17 +70,48 @@ pub fn next_call(mix: Mix, ids: &[u16], history: &History, numbers: &mut Numbers
     Call::Remove { id: next_removal(mix, &held, history, numbers) }
 }
 
+/// The id of a longest line. There is a line.
+fn longest(book: &Book) -> u16 {
+    book.lines().max_by_key(|(_, pages)| pages.len()).map_or(0, |(id, _)| id)
+}
+
 fn next_add(mix: Mix, ids: &[u16], book: &Book, numbers: &mut Numbers) -> Call {
-    let (blocks, f) = (book.check() as usize, book.free() as usize);
-    let n = match mix {
+    let n = next_length(mix, book, book.free() as usize, numbers);
+    Call::Add { id: next_id(ids, book, numbers), length: n * BLOCK, letter: letters::low(numbers) }
+}
+
+/// The blocks of a new file, where so many are free for it.
+fn next_length(mix: Mix, book: &Book, f: usize, numbers: &mut Numbers) -> usize {
+    let blocks = book.check() as usize;
+    match mix {
         Mix::Swarm => numbers.within(1, 4),
         Mix::Many => numbers.within(1, 1 + blocks / MOST_FILES),
         Mix::Full if numbers.one_in(3) => f.max(1),
         Mix::Full | Mix::Moves | Mix::Empty => numbers.within(1, 1 + f / 2),
         Mix::Any => numbers.within(1, blocks + 1),
         Mix::Pieces => many_ones(f.max(1), numbers),
+    }
+}
+
+/// Mostly with a letter above the stored one. It is as long as an add, with the file's own blocks free, or as long as
+/// the file, as long as fits, or a block more. With many files none may take all that is free.
+fn next_replacement(mix: Mix, held: &[u16], history: &History, numbers: &mut Numbers) -> Call {
+    let book = &history.book;
+    let lines = book.lines().filter(|(_, pages)| !letters::above(pages).is_empty());
+    let replaceable: Vec<u16> = lines.map(|(id, _)| id).collect();
+    let from = if replaceable.is_empty() { held } else { &replaceable };
+    let id = next_removal(mix, from, history, numbers);
+    let n = book.pages(id) as usize;
+    let most = book.free() as usize + n;
+    let pages = match numbers.within(0, 19) {
+        0..=4 => n,
+        5..=6 if !matches!(mix, Mix::Many | Mix::Swarm) => most,
+        7 => most + 1,
+        _ => next_length(mix, book, most, numbers),
     };
-    Call::Add { id: next_id(ids, book, numbers), length: n * BLOCK }
+    let above = book.lines().find(|line| line.0 == id).map_or(&[][..], |(_, pages)| letters::above(pages));
+    let letter = if above.is_empty() || numbers.one_in(10) { letters::any(numbers) } else { numbers.pick(above) };
+    Call::Replace { id, length: pages * BLOCK, letter }
 }
 
 /// A number up to the double of some blocks, whose binary digits are all ones, or all but one.
@@ -124,47 +163,5 @@ fn next_look(held: &[u16], book: &Book, numbers: &mut Numbers) -> Call {
             let most = if numbers.one_in(8) { n - first } else { (n - first).min(40) };
             Call::Read { id, first: first as u64, length: numbers.within(1, most) * BLOCK }
         }
-    }
-}
-
-/// A call of which each argument may be wrong, several at once too.
-pub fn wild_call(ids: &[u16], book: &Book, numbers: &mut Numbers) -> Call {
-    let (held, f) = (held(book), book.free() as usize);
-    let id = match numbers.within(0, 5) {
-        0 => 0,
-        1..=3 if !held.is_empty() => numbers.pick(&held),
-        _ => numbers.pick(ids),
-    };
-    let n = book.pages(id) as usize;
-    let added = wild_length(&[1, 2, n, f, f + 1], numbers);
-    let read = wild_length(&[1, 2, n, n + 1], numbers);
-    let first = numbers.pick(&[0, 0, 1, n.saturating_sub(1), n, 65_536]) as u64;
-    match numbers.within(0, 9) {
-        0..=2 => Call::Add { id, length: added },
-        3 => Call::Remove { id },
-        4..=6 => Call::Read { id, first: if numbers.one_in(9) { u64::MAX - first } else { first }, length: read },
-        7 => Call::Breaks { id },
-        8 => Call::Free,
-        _ => Call::Check,
-    }
-}
-
-/// The bytes of some of these pages, or of none, or no multiple of a page.
-fn wild_length(pages: &[usize], numbers: &mut Numbers) -> usize {
-    let bytes = numbers.pick(pages) * BLOCK;
-    numbers.pick(&[0, 1, 511, 513, bytes, bytes, bytes, bytes + 1])
-}
-
-/// Buffers of which one or both have a wrong length. A catalogue may have the length of another version.
-pub fn wrong_lengths(right: Lent, numbers: &mut Numbers) -> Lent {
-    let Lent { cat, disk } = right;
-    let mut cats = vec![0, 1, cat - 2, cat - 1, cat + 1, 2 * cat];
-    cats.extend(Version::ALL.iter().map(|version| version.catalogue).filter(|&other| other != cat));
-    let wrong_cat = numbers.pick(&cats);
-    let wrong_disk = numbers.pick(&[0, 1, 511, disk - 512, disk - 1, disk + 1, disk + 512]);
-    match numbers.within(0, 4) {
-        0 | 1 => Lent { cat: wrong_cat, disk },
-        2 | 3 => Lent { cat, disk: wrong_disk },
-        _ => Lent { cat: wrong_cat, disk: wrong_disk },
     }
 }

@@ -5,10 +5,11 @@ use model::{Version, BLOCK};
 use crate::call::{Call, Lent};
 use crate::history::{History, MOST_WHOLE};
 use crate::large;
-use crate::mixes::{ids, next_call, wild_call, wrong_lengths, Mix, MIXES};
+use crate::mixes::{ids, next_call, Mix, MIXES};
 use crate::numbers::Numbers;
 use crate::tally::{Event, Tally};
 use crate::twin::Difference;
+use crate::wild::{wild_call, wrong_lengths};
 
 /// Disks that each run has, if the version has them.
 const DISKS: [usize; 10] = [1, 2, 3, 5, 16, 261, 4095, 4096, 4097, 5000];
@@ -46,7 +47,8 @@ fn in_version(version: Version, seed: u64, calls: u64, numbers: &mut Numbers) ->
     println!("  after every call all bytes of catalogue, disk and output were compared");
     tally.print_calls();
     tally.print_removals();
-    let never_seen: Vec<Event> = tally.events().into_iter().filter(|(_, times)| *times == 0).collect();
+    let events = tally.events().into_iter().chain(tally.refusals_of_calls());
+    let never_seen: Vec<Event> = events.filter(|(_, times)| *times == 0).collect();
     for (what, _) in &never_seen {
         println!("  never seen: {what}");
     }

@@ -5,7 +5,8 @@ use std::hint::black_box;
 use model::{Catalogue, Entry, Version};
 
 use crate::layouts::{most_pairs, staircase};
-use event_disk::{add, breaks, check, format, free, read, remove, Refusal, BLOCK};
+use crate::letters;
+use event_disk::{add, breaks, check, format, free, read, remove, replace, Refusal, BLOCK};
 
 /// Bytes that the known scene needs at least.
 pub const KNOWN: usize = 64 * 1024;
@@ -14,7 +15,7 @@ pub const KNOWN: usize = 64 * 1024;
 pub const TRIALS: [&str; 2] = ["none", "known"];
 
 /// The names of the scenes: the call that each measures comes first.
-pub const SCENES: [&str; 16] = [
+pub const SCENES: [&str; 20] = [
     "format-most-pairs",
     "format-greatest",
     "add-one-to-empty",
@@ -24,6 +25,10 @@ pub const SCENES: [&str; 16] = [
     "remove-last",
     "remove-one-of-64",
     "remove-most-copied",
+    "replace-all",
+    "replace-one-of-64",
+    "replace-most-copied",
+    "replace-no-letter",
     "read-all",
     "read-one-of-64",
     "breaks-of-64",
@@ -75,6 +80,11 @@ fn one_file(version: Version) -> Catalogue {
     Catalogue { version, blocks, entries: vec![Entry { id: 1, blocks, pairs }], free: Vec::new() }
 }
 
+/// The disk on which the removal of id 1 copies most.
+fn most_copied(version: Version) -> Disk {
+    Disk::of(&staircase(version, u32::from(version.most_height()) - 1))
+}
+
 /// A call that is ready to be made.
 pub type Ready = Box<dyn FnMut() -> Result<u64, Refusal>>;
 
@@ -91,6 +101,7 @@ pub fn refusal(name: &str) -> Option<Refusal> {
     match name {
         "add-65th" => Some(Refusal::FilesFull),
         "check-not-sound" | "add-not-sound" => Some(Refusal::NotSound),
+        "replace-no-letter" => Some(Refusal::LetterUnknown),
         _ => None,
     }
 }
@@ -114,7 +125,11 @@ pub fn prepare(name: &str, version: Version) -> Option<Result<Ready, Refusal>> {
         "read-one-of-64" => reading(full(), last, pages_of(version, last)),
         "remove-last" => removing(Disk::of(&one_file(version)), 1),
         "remove-one-of-64" => removing(full(), 1),
-        "remove-most-copied" => removing(Disk::of(&staircase(version, u32::from(version.most_height()) - 1)), 1),
+        "remove-most-copied" => removing(most_copied(version), 1),
+        "replace-all" => replacing(Disk::of(&one_file(version)), 1, b'M', most - 1),
+        "replace-one-of-64" => replacing(full(), last, b'M', pages_of(version, last)),
+        "replace-most-copied" => replacing(most_copied(version), 1, b'M', 1),
+        "replace-no-letter" => replacing(full(), last, 0, 1),
         "add-one-to-empty" => fresh(most).and_then(|d| adding(d, 1)),
         "add-all" => fresh(most - 1).and_then(|d| adding(d, most - 1)),
         "add-64th" => full().removed(last).and_then(|d| adding(d, pages_of(version, last))),
@@ -142,6 +157,13 @@ fn adding(disk: Disk, pages: usize) -> Result<Ready, Refusal> {
 
 fn removing(disk: Disk, id: u16) -> Result<Ready, Refusal> {
     ready(disk, move |cat, disk| remove(cat, disk, id))
+}
+
+/// The pages of these disks are zero bytes, which are no letter, so that each letter ranks above theirs.
+fn replacing(disk: Disk, id: u16, letter: u8, pages: usize) -> Result<Ready, Refusal> {
+    let mut content = vec![0; pages * BLOCK];
+    content[letters::PLACE] = letter;
+    ready(disk, move |cat, disk| replace(cat, disk, id, &content))
 }
 
 fn reading(disk: Disk, id: u16, pages: usize) -> Result<Ready, Refusal> {

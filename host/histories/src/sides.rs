@@ -6,6 +6,7 @@ use model::{Answer, Version, BLOCK};
 
 use crate::call::{Call, Lent};
 use crate::merges::Merges;
+use crate::twin::Difference;
 
 /// Bytes before and after a lent buffer, which no call may change.
 pub const GUARD: usize = 61;
@@ -66,11 +67,11 @@ impl Side {
         self.out.bytes.resize(length + 2 * GUARD, UNREAD);
     }
 
-    /// What a call is going to merge, as the second implementation has it. A refused call merges nothing.
+    /// What a call merges if it is answered, as the second implementation has it.
     pub fn merges(&self, call: &Call, lent: Lent) -> Merges {
-        match *call {
-            Call::Remove { id } => Merges::of(self.cat.lent(lent.cat), self.disk.lent(lent.disk), id),
-            _ => Merges::default(),
+        match call.removed() {
+            Some(id) => Merges::of(self.cat.lent(lent.cat), self.disk.lent(lent.disk), id),
+            None => Merges::default(),
         }
     }
 
@@ -81,6 +82,7 @@ impl Side {
             Call::Format => model::format(cat, disk),
             Call::Add { id, .. } => model::add(cat, disk, id, content),
             Call::Remove { id } => model::remove(cat, disk, id),
+            Call::Replace { id, .. } => model::replace(cat, disk, id, content),
             Call::Read { id, first, length } => model::read(cat, disk, id, first, self.out.lent_mut(length)),
             Call::Breaks { id } => model::breaks(cat, id),
             Call::Free => model::free(cat),
@@ -95,6 +97,7 @@ impl Side {
             Call::Format => event_disk::format(cat, disk),
             Call::Add { id, .. } => event_disk::add(cat, disk, id, content),
             Call::Remove { id } => event_disk::remove(cat, disk, id),
+            Call::Replace { id, .. } => event_disk::replace(cat, disk, id, content),
             Call::Read { id, first, length } => event_disk::read(cat, disk, id, first, self.out.lent_mut(length)),
             Call::Breaks { id } => event_disk::breaks(cat, id),
             Call::Free => event_disk::free(cat),
@@ -102,4 +105,19 @@ impl Side {
         };
         answer.map_err(|refusal| refusal.number())
     }
+}
+
+/// Guarded buffers that are equal, guards and all.
+pub fn compare(what: &str, one: &Guarded, other: &Guarded) -> Result<(), Difference> {
+    compare_from(-(GUARD as isize), what, &one.bytes, &other.bytes)
+}
+
+/// Equal bytes, or the first place where they are not, counted from the start of the lent buffer.
+pub fn compare_from(start: isize, what: &str, one: &[u8], other: &[u8]) -> Result<(), Difference> {
+    if one == other {
+        return Ok(());
+    }
+    let place = one.iter().zip(other).position(|(a, b)| a != b).unwrap_or(one.len().min(other.len()));
+    let (here, there) = (one.get(place), other.get(place));
+    Err(format!("{what}: byte {} is {here:?}, not {there:?}", start + place as isize))
 }

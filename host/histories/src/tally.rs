@@ -4,9 +4,27 @@ use model::Answer;
 
 use crate::call::{Call, NAMES};
 use crate::merges::Copied;
+use crate::removals::Removals;
 
 /// Something that has to be seen, and how often it was.
 pub type Event = (String, u64);
+
+/// The greatest number of a refusal.
+const MOST: usize = 13;
+/// The refusals that each call gives, in the order of `NAMES`.
+const GIVEN: [&[usize]; NAMES.len()] = [
+    &[1, 2],
+    &[1, 3, 4, 5, 7, 8, 10, 11],
+    &[1, 3, 4, 5, 6],
+    &[1, 3, 4, 5, 6, 8, 12, 13, 11],
+    &[1, 3, 4, 5, 6, 8, 9],
+    &[1, 3, 5, 6],
+    &[1, 3],
+    &[1, 3, 4],
+];
+
+/// Some replacement.
+const REPLACE: Call = Call::Replace { id: 0, length: 0, letter: 0 };
 
 /// Counts of calls, refusals and removals.
 #[derive(Default)]
@@ -14,19 +32,11 @@ pub struct Tally {
     pub calls: u64,
     kinds: [u64; NAMES.len()],
     answered: [u64; NAMES.len()],
-    refusals: [u64; 12],
-    removals: u64,
-    copying: u64,
-    copied: u64,
-    moved: u64,
-    most_copied: u64,
-    at_bound: u64,
-    most_at_bound: u64,
-    merges: u64,
-    passing: u64,
-    by_lowest: u64,
-    fewer: u64,
-    more: u64,
+    /// By call and number.
+    refusals: [[u64; MOST + 1]; NAMES.len()],
+    removals: Removals,
+    /// The removals of replacements.
+    replacements: Removals,
 }
 
 impl Tally {
@@ -40,112 +50,132 @@ impl Tally {
     pub fn end(&mut self, call: &Call, answer: Answer) {
         match answer {
             Ok(_) => self.answered[call.number()] += 1,
-            Err(number) => self.refusals[usize::from(number)] += 1,
+            Err(number) => self.refusals[call.number()][usize::from(number)] += 1,
         }
     }
 
-    /// Counts a removal. One that may copy nothing reaches its bound in no way worth counting.
-    pub fn count_removal(&mut self, copied: Copied) {
-        self.removals += 1;
-        self.copying += u64::from(copied.blocks > 0);
-        self.copied += copied.blocks;
-        self.moved += copied.moved;
-        self.most_copied = self.most_copied.max(copied.blocks);
-        if copied.bound > 0 && copied.blocks == copied.bound {
-            self.at_bound += 1;
-            self.most_at_bound = self.most_at_bound.max(copied.bound);
+    /// Counts what a removal or a replacement copied.
+    pub fn count_removal(&mut self, call: &Call, copied: Copied) {
+        match call {
+            Call::Replace { .. } => self.replacements.note(copied),
+            _ => self.removals.note(copied),
         }
-        self.merges += copied.merges;
-        self.passing += copied.passing;
-        self.by_lowest += copied.by_lowest;
-        self.fewer += u64::from(copied.blocks < copied.by_lowest);
-        self.more += u64::from(copied.blocks > copied.by_lowest);
     }
 
     /// Counts what another has counted too.
     pub fn add(&mut self, other: &Tally) {
         self.calls += other.calls;
-        self.removals += other.removals;
-        self.copying += other.copying;
-        self.copied += other.copied;
-        self.moved += other.moved;
-        self.at_bound += other.at_bound;
-        self.merges += other.merges;
-        self.passing += other.passing;
-        self.by_lowest += other.by_lowest;
-        self.fewer += other.fewer;
-        self.more += other.more;
-        self.most_copied = self.most_copied.max(other.most_copied);
-        self.most_at_bound = self.most_at_bound.max(other.most_at_bound);
-        let counts = self.kinds.iter_mut().chain(&mut self.answered).chain(&mut self.refusals);
-        for (count, more) in counts.zip(other.kinds.iter().chain(&other.answered).chain(&other.refusals)) {
+        self.removals = self.removals.with(other.removals);
+        self.replacements = self.replacements.with(other.replacements);
+        let counts = self.kinds.iter_mut().chain(&mut self.answered).chain(self.refusals.as_flattened_mut());
+        let more = other.kinds.iter().chain(&other.answered).chain(other.refusals.as_flattened());
+        for (count, more) in counts.zip(more) {
             *count += more;
         }
     }
 
     /// What has to be seen in random lists, and how often it was: each call but format answered, each refusal, removals
-    /// that copied or reached their limit, buddies with free blocks that moved, and free buddies that were merged though
-    /// the two lowest free sections were others.
+    /// and replacements that copied or reached their limit, buddies with free blocks that moved, and free buddies that
+    /// were merged though the two lowest free sections were others.
     pub fn events(&self) -> Vec<Event> {
         let calls = NAMES.iter().zip(self.answered).skip(1).map(|(name, times)| (format!("{name} answered"), times));
-        let refusals = (1..=11).map(|number| (format!("refusal {number}"), self.refusals[number]));
+        let refusals = (1..=MOST).map(|number| (format!("refusal {number}"), self.refused(number)));
         let removals = [
-            ("a removal that copied", self.copying),
-            ("a removal that reached its carry bound", self.at_bound),
+            ("a removal that copied", self.removals.copying),
+            ("a removal that reached its carry bound", self.removals.at_bound),
+            ("a replacement that copied", self.replacements.copying),
+            ("a replacement that reached its bound", self.replacements.at_bound),
             ("a free block in a buddy that moved", self.spared()),
-            ("free buddies that were not the two lowest", self.passing),
+            ("free buddies that were not the two lowest", self.passing()),
         ];
         calls.chain(refusals).chain(removals.map(|(what, times)| (what.into(), times))).collect()
     }
 
+    /// Each refusal of each call, and how often it was given.
+    pub fn refusals_of_calls(&self) -> Vec<Event> {
+        let of_call = |(call, numbers): (usize, &&[usize])| {
+            let given = |&number: &usize| (format!("refusal {number} of {}", NAMES[call]), self.refusals[call][number]);
+            numbers.iter().map(given).collect::<Vec<_>>()
+        };
+        GIVEN.iter().enumerate().flat_map(of_call).collect()
+    }
+
     /// How often an add was answered.
     pub fn adds(&self) -> u64 {
-        self.answered[Call::Add { id: 0, length: 0 }.number()]
+        self.answered[Call::Add { id: 0, length: 0, letter: 0 }.number()]
+    }
+
+    /// How often a replacement was answered.
+    pub fn replaced(&self) -> u64 {
+        self.answered[REPLACE.number()]
     }
 
     /// How often a refusal was given.
-    pub fn refused(&self, number: u8) -> u64 {
-        self.refusals[usize::from(number)]
+    pub fn refused(&self, number: usize) -> u64 {
+        self.refusals.iter().map(|of_call| of_call[number]).sum()
     }
 
-    /// The removals that copied as many blocks as they may, and at least one.
+    /// The removals and replacements that copied as many blocks as they may, and at least one.
     pub fn at_bound(&self) -> u64 {
-        self.at_bound
+        self.both().at_bound
     }
 
-    /// The blocks that removals copied.
-    pub fn copied(&self) -> u64 {
-        self.copied
+    /// The blocks that removals copied, and that replacements did.
+    pub fn copied(&self) -> [u64; 2] {
+        [self.removals.copied, self.replacements.copied]
     }
 
     /// The free blocks of buddies that moved, which were not copied.
     pub fn spared(&self) -> u64 {
-        self.moved - self.copied
+        self.both().spared()
     }
 
     /// The merges of two free buddies though the two lowest free sections were others.
     pub fn passing(&self) -> u64 {
-        self.passing
+        self.both().passing
+    }
+
+    fn both(&self) -> Removals {
+        self.removals.with(self.replacements)
     }
 
     /// Calls by kind, and refusals by number.
     pub fn print_calls(&self) {
         let kinds = NAMES.iter().zip(self.kinds).map(|(name, count)| format!("{name} {count}"));
         println!("  calls {}: {}", self.calls, kinds.collect::<Vec<_>>().join(", "));
-        let refusals = (1..=11).map(|number| format!("{number}: {}", self.refusals[number]));
+        let refusals = (1..=MOST).map(|number| format!("{number}: {}", self.refused(number)));
         println!("  refusals by number: {}", refusals.collect::<Vec<_>>().join(", "));
+        let of_replace = REPLACE.number();
+        let refusals = GIVEN[of_replace].iter().map(|&number| (number, self.refusals[of_replace][number]));
+        let refusals = refusals.map(|(number, times)| format!("{number}: {times}"));
+        println!("  of replace, in its order: {}", refusals.collect::<Vec<_>>().join(", "));
     }
 
-    /// The removals.
+    /// What removals and replacements copied and merged.
     pub fn print_removals(&self) {
-        let Tally { removals, copied, moved, most_copied, at_bound, most_at_bound, .. } = self;
-        println!("  removals {removals}: {copied} blocks copied of {moved} in the buddies that moved,");
-        println!(
-            "  at most {most_copied} copied in one; {at_bound} reached the carry bound, the greatest at {most_at_bound}"
-        );
-        let Tally { merges, passing, by_lowest, fewer, more, .. } = self;
-        println!("  merges {merges}: {passing} of two free buddies though the two lowest free sections were others;");
-        println!("  taking the two lowest always, each removal from the same disk, would copy {by_lowest} blocks:");
-        println!("  {fewer} removals copied fewer than that, {more} copied more");
+        self.removals.print("removals");
+        self.replacements.print("replacements");
+    }
+}
+
+#[cfg(test)]
+mod tests {
+    use super::*;
+
+    #[test]
+    fn a_refusal_is_counted_for_its_call() {
+        let mut tally = Tally::default();
+        for (call, answer) in [(REPLACE, Err(13)), (REPLACE, Err(11)), (REPLACE, Ok(0)), (Call::Free, Err(3))] {
+            tally.begin(&call);
+            tally.end(&call, answer);
+        }
+        let mut twice = Tally::default();
+        twice.add(&tally);
+        twice.add(&tally);
+        assert_eq!([1, 3, 11, 12, 13].map(|number| twice.refused(number)), [0, 2, 2, 0, 2]);
+        assert_eq!((twice.calls, twice.replaced(), twice.adds()), (8, 2, 0));
+        let seen = |(what, times): Event| (times > 0).then_some(what);
+        let seen: Vec<String> = twice.refusals_of_calls().into_iter().filter_map(seen).collect();
+        assert_eq!(seen, ["refusal 13 of replace", "refusal 11 of replace", "refusal 3 of free"]);
     }
 }

@@ -14,7 +14,7 @@ use crate::watch::{compare_state, follow};
 /// A disk with id 3 of 3 blocks: on 5 blocks it is at (0,2) (4,1).
 fn history(version: Version, blocks: usize) -> History {
     let mut history = History::new(version, blocks, &mut Numbers::from_seed(1));
-    for call in [Call::Format, Call::Add { id: 3, length: 3 * BLOCK }] {
+    for call in [Call::Format, Call::Add { id: 3, length: 3 * BLOCK, letter: b'R' }] {
         assert!(step(&mut history, call).expect("no difference").is_ok());
     }
     history
@@ -98,7 +98,9 @@ fn long_disk(files: &[(u16, usize)]) -> History {
     let mut history = History::new(Version::LARGE, 2 * MOST_WHOLE, &mut Numbers::from_seed(1));
     step(&mut history, Call::Format).expect("no difference").expect("an answer");
     for &(id, n) in files {
-        step(&mut history, Call::Add { id, length: n * BLOCK }).expect("no difference").expect("an answer");
+        step(&mut history, Call::Add { id, length: n * BLOCK, letter: b'R' })
+            .expect("no difference")
+            .expect("an answer");
     }
     history
 }
@@ -112,7 +114,11 @@ fn a_wrong_block_at_the_touched_ones_is_found_at_once() {
     for (block, found) in [(first - 1, false), (first, true), (first + 2, true), (first + 3, false)] {
         let mut history = long_disk(&[(1, 1)]);
         history.twin.change_proved(block);
-        assert_eq!(step(&mut history, Call::Add { id: 2, length: BLOCK }).is_err(), found, "block {block}");
+        assert_eq!(
+            step(&mut history, Call::Add { id: 2, length: BLOCK, letter: b'R' }).is_err(),
+            found,
+            "block {block}"
+        );
     }
     // The removal copies the second file's page to the block after the third one's.
     for (block, found) in [(first - 2, false), (first + 1, true), (first + 4, true), (first + 5, false)] {
@@ -163,7 +169,10 @@ fn a_long_list_without_an_event_is_told() {
         assert_eq!(list.run(5000, 5000, &mut numbers), Ok(()));
         assert!((5000..5400).contains(&list.history.followed));
         let told = List::new(version, 16, &mut numbers).run(5000, 5000, &mut numbers).expect_err("16 files at most");
-        assert_eq!(told, "never seen from call 0 of the list on: refusal 10, the 64th file added");
+        assert_eq!(
+            told,
+            "never seen from call 0 of the list on: refusal 10, the 64th file added, one of 64 files replaced"
+        );
     }
 }
 
@@ -172,8 +181,8 @@ fn pages_of_all_calls_ids_and_numbers_differ() {
     let mut content = Vec::new();
     let mut seen = std::collections::HashSet::new();
     for (call, id) in [(0, 1), (0, 65_535), (1, 1), (1, 2), (200_000, 1)] {
-        stamp(&mut content, call, id, 70_000 * BLOCK);
-        assert!(content.chunks(BLOCK).all(|page| seen.insert(page[..8].to_vec())), "call {call}, id {id}");
+        stamp(&mut content, call, id, 70_000 * BLOCK, b'D');
+        assert!(content.chunks(BLOCK).all(|page| seen.insert(page[8..16].to_vec())), "call {call}, id {id}");
     }
 }
 

@@ -1,10 +1,11 @@
 //! Which blocks of two disks are compared after a call where comparing all of them would take too long.
 //!
-//! First the blocks that the call touches by the second implementation's own account: the pieces of an added file, or
-//! the buddies that a removal moves and the sections that they move to, with the free blocks in them, which keep their
-//! bytes; and the block before and after each of these. Then a window that goes round the disk, one part of many at
-//! each call: so a block that was changed and should not have been is found when the window comes to it, unless a later
-//! call has written over it.
+//! First the blocks that the call touches by the second implementation's own account: the pieces of an added file, the
+//! buddies that a removal moves and the sections that they move to, with the free blocks in them, which keep their
+//! bytes, and for a replacement both; and the block before and after each of these. A replacement that is refused for
+//! its letter or for space touches nothing, but what its removal would move is compared. Then a window that goes round
+//! the disk, one part of many at each call: so a block that was changed and should not have been is found when the
+//! window comes to it, unless a later call has written over it.
 
 use std::ops::Range;
 
@@ -33,12 +34,12 @@ impl Touched {
         self.runs = moves.flat_map(|moved| [moved.from.clone(), moved.to.clone()]).collect();
     }
 
-    /// Notes the pieces of a file that was added, and moves the window.
+    /// Notes the pieces of a file that was added too, also in the place of another, and moves the window.
     pub fn after(&mut self, call: &Call, answer: Answer, cat: &[u8]) {
-        if let (Call::Add { id, .. }, Ok(_)) = (call, answer) {
+        if let (Some(id), Ok(_)) = (call.placed(), answer) {
             let catalogue = model::sound(cat);
-            let entry = catalogue.as_ref().and_then(|catalogue| catalogue.entry(*id));
-            self.runs = entry.map_or(Vec::new(), |entry| entry.pairs.iter().map(|pair| pair.blocks()).collect());
+            let entry = catalogue.as_ref().and_then(|catalogue| catalogue.entry(id));
+            self.runs.extend(entry.into_iter().flat_map(|entry| entry.pairs.iter().map(|pair| pair.blocks())));
         }
         let start = if self.window.end >= self.blocks { 0 } else { self.window.end };
         self.window = start..(start + self.blocks.div_ceil(ROUND)).min(self.blocks);

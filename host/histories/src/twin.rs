@@ -2,11 +2,12 @@
 
 use model::{Answer, Entry, Version, BLOCK};
 
+use crate::apart::Apart;
 use crate::before::Before;
 use crate::call::{Call, Lent};
 use crate::merges::Merges;
 use crate::numbers::Numbers;
-use crate::sides::{Guarded, Side, GUARD, UNREAD};
+use crate::sides::{compare, compare_from, Side, UNREAD};
 use crate::touched::Touched;
 
 /// How the two, or a call and the book, differ.
@@ -18,7 +19,7 @@ pub struct Twin {
     proved: Side,
     second: Side,
     before: Before,
-    /// What the last call merged, by the second implementation's account.
+    /// What the last call merged if it was answered, by the second implementation's account.
     merges: Merges,
     /// Where only a part of the disks is compared after a call, that part.
     touched: Option<Touched>,
@@ -86,7 +87,7 @@ impl Twin {
     }
 
     /// Makes a call on both. Answers and all bytes have to be equal, of long disks those of `Touched`, and a refused
-    /// call must not change any.
+    /// call must not change any. Where all bytes are compared, a replacement has to be what its two calls are.
     pub fn call(&mut self, call: &Call, lent: Lent, content: &[u8]) -> Result<Answer, Difference> {
         for side in [&mut self.proved, &mut self.second] {
             side.clear_output(call.output_length());
@@ -99,18 +100,32 @@ impl Twin {
         if let Some(touched) = &mut self.touched {
             touched.after(call, second, self.second.cat.lent(lent.cat));
         }
-        match (call, second) {
-            (_, Err(_)) => self.keep(),
-            (Call::Format | Call::Add { .. } | Call::Remove { .. }, Ok(_)) => self.before.change(),
-            _ => {}
+        match second {
+            Err(_) => self.keep(),
+            Ok(_) if call.changes() => self.before.change(),
+            Ok(_) => {}
         }
+        let apart = self.apart(call, lent, content, second);
         let proved = self.proved.call_proved(call, lent, content);
         if proved != second {
             return Err(format!("the proved manager gave {}, the second {}", told(proved), told(second)));
         }
-        match self.compare_bytes(proved) {
+        let (cat, disk) = (self.proved.cat.lent(lent.cat), self.proved.disk.lent(lent.disk));
+        let compared = self.compare_bytes(proved);
+        match compared.and_then(|()| apart.map_or(Ok(()), |apart| apart.compare(proved, cat, disk))) {
             Ok(()) => Ok(proved),
             Err(difference) => Err(format!("both gave {}, but {difference}", told(proved))),
+        }
+    }
+
+    /// The two calls of a replacement that is answered or refused for space, on copies of the proved manager's bytes.
+    fn apart(&self, call: &Call, lent: Lent, content: &[u8], answer: Answer) -> Option<Apart> {
+        let (cat, disk) = (self.proved.cat.lent(lent.cat), self.proved.disk.lent(lent.disk));
+        match (call, answer) {
+            (Call::Replace { id, .. }, Ok(_) | Err(11)) if self.touched.is_none() => {
+                Some(Apart::make(cat, disk, *id, content))
+            }
+            _ => None,
         }
     }
 
@@ -118,7 +133,7 @@ impl Twin {
     #[cfg(test)]
     pub fn change_proved(&mut self, block: usize) {
         self.before.disk.forget();
-        self.proved.disk.bytes[GUARD + block * BLOCK] ^= 1;
+        self.proved.disk.lent_mut((block + 1) * BLOCK)[block * BLOCK] ^= 1;
     }
 
     /// Keeps the bytes before a refused call: of disks that are compared in parts only the catalogue.
@@ -176,19 +191,4 @@ pub fn told(answer: Answer) -> String {
         Ok(number) => format!("answer {number}"),
         Err(number) => format!("refused {number}"),
     }
-}
-
-/// Guarded buffers that are equal, guards and all.
-fn compare(what: &str, one: &Guarded, other: &Guarded) -> Result<(), Difference> {
-    compare_from(-(GUARD as isize), what, &one.bytes, &other.bytes)
-}
-
-/// Equal bytes, or the first place where they are not, counted from the start of the lent buffer.
-fn compare_from(start: isize, what: &str, one: &[u8], other: &[u8]) -> Result<(), Difference> {
-    if one == other {
-        return Ok(());
-    }
-    let place = one.iter().zip(other).position(|(a, b)| a != b).unwrap_or(one.len().min(other.len()));
-    let (here, there) = (one.get(place), other.get(place));
-    Err(format!("{what}: byte {} is {here:?}, not {there:?}", start + place as isize))
 }

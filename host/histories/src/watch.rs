@@ -23,8 +23,9 @@ pub fn follow(book: &mut Book, call: &Call, content: &[u8], twin: &Twin, answer:
             Ok(book.check())
         }
         Call::Add { id, .. } => book.add(id, content),
-        // The number is not the book's; that there is one is.
+        // The numbers of these are not the book's; that there is one is.
         Call::Remove { id } => book.remove(id).map(|()| answer.unwrap_or(0)),
+        Call::Replace { id, .. } => book.replace(id, content).map(|()| answer.unwrap_or(0)),
         Call::Read { id, first, length } => book.read(id, first, length).map(|p| (p.len() / BLOCK) as u64),
         Call::Breaks { id } => book.breaks(id).map(|_| pieces(book, id) - 1),
         Call::Free => Ok(book.free()),

@@ -19,6 +19,11 @@ fn pages_in(length: usize) -> Result<u64, u8> {
     }
 }
 
+/// The place of a line's quality letter, that of its first page, in "RDQM": none for any other byte, and below all.
+fn rank(pages: &[u8]) -> Option<usize> {
+    "RDQM".bytes().position(|letter| pages[6] == letter)
+}
+
 impl Book {
     /// The book of a disk of C blocks, with no line.
     pub fn new(blocks: u64) -> Book {
@@ -76,6 +81,22 @@ impl Book {
     pub fn remove(&mut self, id: u16) -> Result<(), u8> {
         self.line(id)?;
         self.lines.remove(&id);
+        Ok(())
+    }
+
+    /// Strikes a line and writes another of its id, if its letter ranks above the old one's and its pages fit in its
+    /// place. The number that a replacement answers is not the book's.
+    pub fn replace(&mut self, id: u16, content: &[u8]) -> Result<(), u8> {
+        let old = self.line(id)?;
+        let n = pages_in(content.len())?;
+        let letter = rank(content).ok_or(12)?;
+        if rank(old).is_some_and(|old_letter| letter <= old_letter) {
+            return Err(13);
+        }
+        if n > self.free() + self.pages(id) {
+            return Err(11);
+        }
+        self.lines.insert(id, content.to_vec());
         Ok(())
     }
 

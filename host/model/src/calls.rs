@@ -19,18 +19,18 @@ fn version_for(cat: &[u8]) -> Result<Version, u8> {
 }
 
 /// The catalogue in a buffer: refusals 1 and 3.
-fn catalogue_in(cat: &[u8]) -> Result<Catalogue, u8> {
+pub(crate) fn catalogue_in(cat: &[u8]) -> Result<Catalogue, u8> {
     version_for(cat)?;
     sound(cat).ok_or(3)
 }
 
 /// Whether the disk buffer is not 512 times the catalogue's C: refusal 4.
-fn wrong_disk(catalogue: &Catalogue, disk: &[u8]) -> bool {
+pub(crate) fn wrong_disk(catalogue: &Catalogue, disk: &[u8]) -> bool {
     disk.len() != BLOCK * catalogue.blocks as usize
 }
 
 /// Whether a content or output length is 0 or no multiple of 512: refusal 8.
-fn wrong_length(length: usize) -> bool {
+pub(crate) fn wrong_length(length: usize) -> bool {
     length == 0 || !length.is_multiple_of(BLOCK)
 }
 

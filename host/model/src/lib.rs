@@ -14,6 +14,7 @@ mod calls;
 mod carry;
 mod moving;
 mod reading;
+mod replacing;
 mod versions;
 mod writing;
 
@@ -25,6 +26,7 @@ pub use calls::{
 pub use carry::carries;
 pub use moving::{buddies_first, two_lowest, Choice, Merge, Move};
 pub use reading::{sound, Catalogue, Entry, Pair};
+pub use replacing::replace;
 pub use versions::Version;
 pub use writing::write;
 

@@ -1,6 +1,7 @@
-//! The seven calls on a lent catalogue and a lent disk.
+//! The eight calls on a lent catalogue and a lent disk.
 
 use crate::disk::{copy_merge, read_pages, write_pages};
+use crate::letter::{rank, stored_rank};
 use crate::loading::load;
 use crate::storing::{store, store_fresh};
 use crate::table::{Entry, Table};
@@ -35,6 +36,31 @@ fn check_buffer(length: usize) -> Result<(), u8> {
     refuse_if(length == 0 || !length.is_multiple_of(BLOCK), 8)
 }
 
+/// Refusal 11: so many blocks are free, or will be.
+fn check_space(length: usize, free: u32) -> Result<(), u8> {
+    refuse_if(length / BLOCK > free as usize, 11)
+}
+
+/// Takes a file out, merges free pieces until no height has two, and answers how many blocks were copied for that.
+fn take_out(table: &mut Table, disk: &mut [u8], at: usize) -> u64 {
+    table.release(at);
+    let mut copied = 0;
+    while let Some((lower, upper)) = table.free.take_pair() {
+        copied += copy_merge(disk, &table.free, lower, upper);
+        table.merge(lower, upper);
+    }
+    copied
+}
+
+/// Gives a file pieces and writes its pages to them, for which there is space. Answers their number.
+fn place(table: &mut Table, disk: &mut [u8], id: u16, content: &[u8]) -> u64 {
+    let pages = content.len() / BLOCK;
+    let entry = Entry { id: id.into(), pieces: table.allocate(pages as u32) };
+    write_pages(disk, content, &entry);
+    table.put(entry);
+    pages as u64
+}
+
 /// Format.
 pub fn format(cat: &mut [u8], disk: &[u8]) -> Answer {
     let version = Version::of_length(cat.len()).ok_or(1)?;
@@ -51,13 +77,10 @@ pub fn add(cat: &mut [u8], disk: &mut [u8], id: u16, content: &[u8]) -> Answer {
     refuse_if(table.find(id.into()).is_some(), 7)?;
     check_buffer(content.len())?;
     refuse_if(table.files().len() >= MOST_FILES, 10)?;
-    let pages = content.len() / BLOCK;
-    refuse_if(pages > table.free.blocks() as usize, 11)?;
-    let entry = Entry { id: id.into(), pieces: table.allocate(pages as u32) };
-    write_pages(disk, content, &entry);
-    table.put(entry);
+    check_space(content.len(), table.free.blocks())?;
+    let pages = place(&mut table, disk, id, content);
     store(cat, &table);
-    Ok(pages as u64)
+    Ok(pages)
 }
 
 /// Remove.
@@ -65,12 +88,23 @@ pub fn remove(cat: &mut [u8], disk: &mut [u8], id: u16) -> Answer {
     let mut table = open(cat)?;
     check_disk_and_id(&table, disk, id)?;
     let at = table.find(id.into()).ok_or(6)?;
-    table.release(at);
-    let mut copied = 0;
-    while let Some((lower, upper)) = table.free.take_pair() {
-        copied += copy_merge(disk, &table.free, lower, upper);
-        table.merge(lower, upper);
-    }
+    let copied = take_out(&mut table, disk, at);
+    store(cat, &table);
+    Ok(copied)
+}
+
+/// Replace: a removal and then an add, with one load and one store. 12 and 13 come before 11.
+pub fn replace(cat: &mut [u8], disk: &mut [u8], id: u16, content: &[u8]) -> Answer {
+    let mut table = open(cat)?;
+    check_disk_and_id(&table, disk, id)?;
+    let at = table.find(id.into()).ok_or(6)?;
+    check_buffer(content.len())?;
+    let (entry, new) = (&table.files()[at], rank(content));
+    refuse_if(new.is_none(), 12)?;
+    refuse_if(new <= stored_rank(disk, entry), 13)?;
+    check_space(content.len(), table.free.blocks() + entry.pieces.blocks())?;
+    let copied = take_out(&mut table, disk, at);
+    place(&mut table, disk, id, content);
     store(cat, &table);
     Ok(copied)
 }

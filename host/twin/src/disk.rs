@@ -6,6 +6,11 @@ use crate::table::Entry;
 use crate::BLOCK;
 use std::ops::Range;
 
+/// The bytes of a block.
+pub fn block(disk: &[u8], number: u32) -> &[u8] {
+    &disk[BLOCK * number as usize..][..BLOCK]
+}
+
 /// Makes the copies of a merge, and answers how many: blocks of the lower section's buddy go to the upper section. Of
 /// the buddy files hold what lies between the free pieces inside it, which stand by rising first block.
 pub fn copy_merge(disk: &mut [u8], free: &FreePieces, lower: Section, upper: Section) -> u64 {

@@ -10,6 +10,7 @@
 mod calls;
 mod disk;
 mod gathered;
+mod letter;
 mod loading;
 mod pieces;
 mod section;
@@ -17,7 +18,7 @@ mod storing;
 mod table;
 mod version;
 
-pub use calls::{add, breaks, check, format, free, read, remove, Answer};
+pub use calls::{add, breaks, check, format, free, read, remove, replace, Answer};
 pub use version::Version;
 
 /// The bytes of a block.

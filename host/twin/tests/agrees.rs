@@ -3,30 +3,11 @@
 mod sides;
 
 use event_disk::Refusal;
+use sides::any::{any_call, buffer_length};
 use sides::numbers::Numbers;
 use sides::{agree, Buffers, Call};
+use std::collections::BTreeSet;
 use twin::{Version, BLOCK};
-
-/// A buffer's length: mostly pages, now and then with a byte more.
-fn buffer_length(numbers: &mut Numbers, pages: usize) -> usize {
-    BLOCK * numbers.below(pages + 1) + usize::from(numbers.below(40) == 0)
-}
-
-fn any_call(numbers: &mut Numbers, ids: usize, pages: usize) -> Call {
-    let id = numbers.below(ids) as u16;
-    match numbers.below(12) {
-        0..=4 => {
-            let byte = numbers.next() as u8;
-            let length = buffer_length(numbers, pages);
-            Call::Add(id, (0..length).map(|i| byte.wrapping_add((i / BLOCK) as u8)).collect())
-        }
-        5..=7 => Call::Remove(id),
-        8 => Call::Read(id, numbers.below(pages + 2) as u64),
-        9 => Call::Breaks(id),
-        10 => Call::Free,
-        _ => Call::Check,
-    }
-}
 
 /// A disk with its version and blocks, and the calls on it: ids below `ids`, contents up to `pages`.
 struct Plan {
@@ -37,32 +18,39 @@ struct Plan {
     calls: usize,
 }
 
-/// A history on a fresh disk. The output has another length before each call.
-fn history(seed: u64, plan: Plan) {
+/// A history on a fresh disk. The output has another length before each call. Gives what replacements were: answered,
+/// or refused with a number.
+fn history(seed: u64, plan: Plan) -> BTreeSet<Result<(), u8>> {
     let numbers = &mut Numbers(seed);
     let (cat, disk) = (vec![7; plan.version.catalogue], vec![9; plan.blocks * BLOCK]);
     let mut proved = Buffers { cat, disk, out: Vec::new() };
     let mut twin = proved.clone();
     assert_eq!(agree(&Call::Format, &mut proved, &mut twin), Ok(plan.blocks as u64));
-    let mut answered = 0;
+    let (mut answered, mut replaced) = (0, BTreeSet::new());
     for _ in 0..plan.calls {
         let out = vec![1; buffer_length(numbers, 4)];
         (proved.out, twin.out) = (out.clone(), out);
         let call = any_call(numbers, plan.ids, plan.pages);
-        answered += usize::from(agree(&call, &mut proved, &mut twin).is_ok());
+        let answer = agree(&call, &mut proved, &mut twin);
+        answered += usize::from(answer.is_ok());
+        if let Call::Replace(..) = call {
+            replaced.insert(answer.map(drop));
+        }
     }
     assert!(answered > plan.calls / 8, "only {answered} of {} calls were answered", plan.calls);
+    replaced
 }
 
 #[test]
 fn on_histories_of_calls() {
     for version in Version::ALL {
-        for (seed, blocks) in [1, 2, 3, 5, 16, 100, 261].into_iter().enumerate() {
-            history(seed as u64, Plan { version, blocks, ids: 12, pages: blocks.div_ceil(3), calls: 1000 });
-        }
-        history(50, Plan { version, blocks: 261, ids: 80, pages: 7, calls: 2000 });
-        history(51, Plan { version, blocks: 4095, ids: 70, pages: 130, calls: 1500 });
-        history(52, Plan { version, blocks: 4096, ids: 10, pages: 1100, calls: 200 });
+        let plan = |blocks, ids, pages, calls| Plan { version, blocks, ids, pages, calls };
+        let small = [1, 2, 3, 5, 16, 100, 261].map(|blocks| plan(blocks, 12, blocks.div_ceil(3), 1000));
+        let more = [plan(261, 80, 7, 2000), plan(4095, 70, 130, 1500), plan(4096, 10, 1100, 200)];
+        let plans = small.into_iter().chain(more).enumerate();
+        let replaced: BTreeSet<_> = plans.flat_map(|(seed, plan)| history(seed as u64, plan)).collect();
+        let refused = [5, 6, 8, 11, 12, 13].map(Err);
+        assert!(replaced.into_iter().eq([Ok(())].into_iter().chain(refused)), "each refusal of replace, and an answer");
     }
 }
 
@@ -115,6 +103,7 @@ fn on_fields_at_their_ends() {
             proved.cat[at..at + 4].copy_from_slice(&number.to_be_bytes());
             let mut twin = proved.clone();
             let _ = agree(&Call::Free, &mut proved, &mut twin);
+            let _ = agree(&Call::Replace(8, vec![b'R'; BLOCK]), &mut proved, &mut twin);
             let _ = agree(&Call::Remove(5), &mut proved, &mut twin);
         }
     }
@@ -137,7 +126,8 @@ fn on_64_files_of_far_too_many_blocks() {
             cat.resize(version.catalogue, 0);
             let mut proved = Buffers { cat, disk: vec![0; 100 * BLOCK], out: Vec::new() };
             let mut twin = proved.clone();
-            for call in [Call::Free, Call::Breaks(64), Call::Remove(1), Call::Add(65, vec![0; BLOCK])] {
+            let replace = Call::Replace(1, vec![b'M'; BLOCK]);
+            for call in [Call::Free, Call::Breaks(64), Call::Remove(1), replace, Call::Add(65, vec![0; BLOCK])] {
                 assert_eq!(agree(&call, &mut proved, &mut twin), Err(3));
             }
         }
@@ -151,13 +141,14 @@ fn on_buffers_of_other_lengths() {
         for disk in [0, 1, BLOCK, 2 * BLOCK + 1, 16 * BLOCK, most * BLOCK, (most + 1) * BLOCK] {
             let mut proved = Buffers { cat: vec![0; cat], disk: vec![0; disk], out: vec![0; BLOCK] };
             let mut twin = proved.clone();
-            let calls = [Call::Check, Call::Format, Call::Check, Call::Add(1, vec![5; BLOCK]), Call::Free];
-            for call in &calls {
-                let _ = agree(call, &mut proved, &mut twin);
+            let (add, replace) = (Call::Add(1, vec![5; BLOCK]), Call::Replace(1, vec![b'D'; BLOCK]));
+            for call in [Call::Check, Call::Format, Call::Check, add, replace, Call::Free] {
+                let _ = agree(&call, &mut proved, &mut twin);
             }
             proved.disk.resize(disk + BLOCK, 0);
             twin.disk.resize(disk + BLOCK, 0);
-            for call in [Call::Check, Call::Remove(1), Call::Add(2, vec![5; BLOCK]), Call::Read(1, 0)] {
+            let replace = Call::Replace(1, vec![b'M'; BLOCK]);
+            for call in [Call::Check, Call::Remove(1), replace, Call::Add(2, vec![5; BLOCK]), Call::Read(1, 0)] {
                 let _ = agree(&call, &mut proved, &mut twin);
             }
         }
@@ -189,6 +180,7 @@ fn on_versions_that_do_not_suit_their_buffer() {
             let mut twin = proved.clone();
             assert_eq!(agree(&Call::Check, &mut proved, &mut twin), Err(3));
             assert_eq!(agree(&Call::Remove(5), &mut proved, &mut twin), Err(3));
+            assert_eq!(agree(&Call::Replace(5, vec![b'M'; BLOCK]), &mut proved, &mut twin), Err(3));
         }
     }
 }

@@ -159,8 +159,8 @@ same-length c =
 
 returns : tie.Need-returns Inv-files μ-files Inv-merges μ-merges
 returns c =
-    let v = c .before .before .before .merges .inv .0 in
-    settling-end _ _ _ _ _ v _ (c .before .before .lowest-pair .ensures) (not-true _ (c .if1 .taken))
+    let v = c .before .before .before .merges .inv in
+    settling-end _ _ _ _ _ (v .0) (v .1) _ (c .before .before .lowest-pair .ensures) (not-true _ (c .if1 .taken))
 
 pub settle-spec : {M : Type 1} → statement M
 settle-spec =

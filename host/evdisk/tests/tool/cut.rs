@@ -6,8 +6,9 @@ use evdisk_tool::files;
 use evdisk_tool::paths::Paths;
 use evdisk_tool::store::Disk;
 use evdisk_tool::Failure;
+use event_disk::Refusal;
 
-/// The line of the shift log of these removals.
+/// The line of the shift log of these removals and replacements.
 pub const LINE: &str = "2026-01-31T23:59:00Z id 1 blocks 1 copied 1 limit 1\n";
 
 /// A watcher that fails after so many writes, the names of those that were made, and the command's failure.
@@ -49,19 +50,29 @@ pub fn opened(scratch: &Scratch) -> (Paths, std::fs::File, Disk) {
     (paths, image, disk)
 }
 
-/// Removes an event, cut off after so many writes; says which were made.
-pub fn remove(scratch: &Scratch, id: u16, after: usize) -> Cut {
+/// What `remove d ID` or `replace d ID FILE` does to a disk.
+fn call(scratch: &Scratch, words: &str, Disk { catalogue, blocks }: &mut Disk) -> Result<u64, Refusal> {
+    let id = |word: &str| word.parse().expect("an id");
+    match words.split_whitespace().collect::<Vec<_>>()[..] {
+        ["remove", "d", word] => event_disk::remove(catalogue, blocks, id(word)),
+        ["replace", "d", word, file] => event_disk::replace(catalogue, blocks, id(word), &scratch.read(file)),
+        _ => panic!("this test is about removals and replacements: {words}"),
+    }
+}
+
+/// Does a removal or replacement, cut off after so many writes; says which were made.
+pub fn shift(scratch: &Scratch, words: &str, after: usize) -> Cut {
     let (paths, image, mut disk) = opened(scratch);
     let before = disk.catalogue.clone();
-    let copied = event_disk::remove(&mut disk.catalogue, &mut disk.blocks, id).expect("the event is there");
-    assert!(copied > 0, "this test is about removals that copy");
+    let copied = call(scratch, words, &mut disk).expect("the event is there");
+    assert!(copied > 0, "this test is about those that copy");
     let redo = commit::written_down(&paths, &image, &before, &disk, LINE).expect("the log");
     let mut cut = Cut::after(after);
-    let done = commit::remove(&paths, &image, &redo, &mut |write| cut.watch(write));
+    let done = commit::shift(&paths, &image, &redo, &mut |write| cut.watch(write));
     cut.ended(done)
 }
 
-/// Completes a removal, cut off after so many writes; says which were made.
+/// Completes what was cut off, cut off after so many writes; says which were made.
 pub fn complete(scratch: &Scratch, after: usize) -> Cut {
     let (paths, image, _) = opened(scratch);
     let mut cut = Cut::after(after);

@@ -1,6 +1,7 @@
 //! The answers for scripts: what they are, and that they are JSON.
 
 use crate::scratch::Scratch;
+use miniseed::Quality;
 
 /// What follows the JSON value that a text starts with, if it starts with one.
 fn after_value(text: &str) -> Option<&str> {
@@ -53,6 +54,17 @@ fn each_command_answers_in_json() {
     assert_eq!(json(&scratch, "free d"), r#"{"free":1}"#);
     assert_eq!(json(&scratch, "check d"), r#"{"blocks":16,"version":1}"#);
     assert_eq!(json(&scratch, "remove d 2"), r#"{"id":2,"blocks":2,"copied":0,"limit":0}"#);
+}
+
+#[test]
+fn a_replacement_in_json_tells_the_new_event_and_the_blocks_of_the_old_one() {
+    let scratch = Scratch::case_6();
+    scratch.reviewed("reviewed", 9, Quality::Q);
+    let numbers = r#"{"id":5,"blocks":9,"replaced":3,"copied":1,"limit":2,"pieces":"#;
+    let pieces = r#"[{"first":8,"length":8},{"first":6,"length":1}]}"#;
+    assert_eq!(json(&scratch, "replace d 5 reviewed"), format!("{numbers}{pieces}"));
+    let log = json(&scratch, "log d");
+    assert!(log.ends_with(r#"Z","id":5,"blocks":3,"copied":1,"limit":2}]"#), "{log}");
 }
 
 #[test]

@@ -101,6 +101,23 @@ fn events_on_the_greatest_disk_are_shifted_listed_drawn_and_read_back() {
     assert_eq!(rows.len(), 64 + 2 + 3 + 1);
 }
 
+/// The stored letter is the byte 1, which is none and ranks below R.
+#[test]
+fn an_event_on_the_greatest_disk_is_replaced_by_a_longer_one() {
+    let scratch = greatest();
+    let mut reviewed = content(4, 65_537);
+    reviewed[6] = b'R';
+    scratch.write("reviewed", &reviewed);
+    let said = "replaced 1: 8192 blocks copied (contract limit 8192); 65537 blocks in 2 pieces: (65536,65536) (0,1)\n";
+    assert_eq!(scratch.does("replace d 1 reviewed"), said);
+    for (id, file) in [(1, "reviewed"), (2, "event-2"), (3, "event-3")] {
+        assert!(scratch.event(id) == scratch.read(file), "event {id}");
+    }
+    assert_eq!(scratch.does("free d"), format!("{} blocks free\n", (1 << 20) - 65_537 - 2 * 8192));
+    let log = scratch.does("log d --json");
+    assert!(log.ends_with("Z\",\"id\":1,\"blocks\":8192,\"copied\":8192,\"limit\":8192}]\n"), "{log}");
+}
+
 /// Runs the tool with no more address space than a fraction of the image would take.
 fn with_little_memory(scratch: &Scratch, words: &[&str]) -> Said {
     let mut shell = Command::new("sh");

@@ -10,13 +10,15 @@ use std::thread::sleep;
 use std::time::Duration;
 
 const BUSY: &str = "evdisk: d: another evdisk is at work on this disk; try again\n";
+/// The commands that change a disk, on that of case 6.
+const CHANGING: [&str; 4] = ["remove d 5", "add d 7 event-5", "replace d 5 event-5", "format d --force"];
 
 #[test]
 fn a_disk_that_is_being_changed_is_left_alone() {
     let scratch = Scratch::case_6();
     let image = File::open(scratch.path("d")).expect("the image");
     image.lock().expect("nobody else has it");
-    for words in ["list d", "read d 5", "check d", "remove d 5", "add d 7 event-5", "format d --force"] {
+    for words in ["list d", "read d 5", "check d"].iter().chain(&CHANGING) {
         assert_eq!(scratch.refuses(words), (3, BUSY.to_string()), "evdisk {words}");
     }
     image.unlock().expect("we have it");
@@ -29,7 +31,9 @@ fn a_disk_that_is_being_looked_at_can_be_looked_at_but_not_changed() {
     let image = File::open(scratch.path("d")).expect("the image");
     image.lock_shared().expect("nobody else has it");
     assert_eq!(scratch.does("free d"), "10 blocks free\n");
-    assert_eq!(scratch.refuses("remove d 5"), (3, BUSY.to_string()));
+    for words in CHANGING {
+        assert_eq!(scratch.refuses(words), (3, BUSY.to_string()), "evdisk {words}");
+    }
 }
 
 /// Runs the tool as someone who may read the files of the folder but not write them.
@@ -63,16 +67,19 @@ fn run_when_written(command: &mut Command) -> Said {
 fn a_reader_reads_a_disk_that_it_may_not_write() {
     let scratch = Scratch::case_6();
     assert_eq!(as_reader(&scratch, &["free", "d"]).out, "10 blocks free\n");
-    let said = as_reader(&scratch, &["remove", "d", "5"]);
-    assert_eq!((said.status, said.err.as_str()), (3, "evdisk: d: Permission denied (os error 13)\n"));
+    for words in CHANGING {
+        let said = as_reader(&scratch, &words.split(' ').collect::<Vec<_>>());
+        assert_eq!((said.status, said.err.as_str()), (3, "evdisk: d: Permission denied (os error 13)\n"), "{words}");
+    }
 }
 
 #[test]
-fn a_reader_is_told_of_a_removal_that_is_to_be_completed_first() {
+fn a_reader_is_told_of_what_is_to_be_completed_first() {
     let scratch = Scratch::case_6();
     scratch.write("d.redo", b"any");
     let said = as_reader(&scratch, &["list", "d"]);
     assert_eq!((said.status, said.out.as_str()), (3, ""));
     let denied = "evdisk: d: Permission denied (os error 13)";
-    assert_eq!(said.err, format!("{denied}; a removal that was cut off is to be completed first, from d.redo\n"));
+    let pending = "a removal or replacement that was cut off is to be completed first, from d.redo";
+    assert_eq!(said.err, format!("{denied}; {pending}\n"));
 }

@@ -10,5 +10,7 @@ mod json;
 mod large;
 mod locks;
 mod refusals;
+mod replacing;
+mod room;
 mod scratch;
 mod swapped;

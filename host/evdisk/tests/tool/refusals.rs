@@ -27,14 +27,14 @@ fn the_managers_refusals_come_with_their_numbers() {
     scratch.write("odd", &[0; 511]);
     scratch.write("empty", &[]);
     scratch.write("eleven", &[0; 11 * 512]);
-    for words in ["remove d 0", "breaks d 0", "read d 0", "add d 0 odd"] {
+    for words in ["remove d 0", "breaks d 0", "read d 0", "add d 0 odd", "replace d 0 odd"] {
         refused(&scratch, words, 5, "0 is no id");
     }
-    for words in ["remove d 6", "breaks d 6", "read d 6", "read d 65535 --pages 0"] {
+    for words in ["remove d 6", "breaks d 6", "read d 6", "read d 65535 --pages 0", "replace d 6 odd"] {
         refused(&scratch, words, 6, "no file has this id");
     }
     refused(&scratch, "add d 5 odd", 7, "a file has this id already");
-    for words in ["add d 7 odd", "add d 7 empty", "read d 5 --pages 0"] {
+    for words in ["add d 7 odd", "add d 7 empty", "read d 5 --pages 0", "replace d 5 odd", "replace d 5 empty"] {
         refused(&scratch, words, 8, LENGTH);
     }
     refused(&scratch, "add d 7 eleven", 11, SPACE);
@@ -93,7 +93,8 @@ fn a_file_larger_than_the_disk_is_refused_by_its_length() {
 fn ids_and_numbers_that_are_none_are_wrong_usage() {
     let scratch = Scratch::case_6();
     for id in ["65536", "-1", "abc", "5x", "+5", "0x5", "4294967301", "5.0"] {
-        for words in [format!("remove d {id}"), format!("read d {id}"), format!("add d {id} event-5")] {
+        for words in ["remove d ID", "read d ID", "add d ID event-5", "replace d ID event-5"] {
+            let words = words.replace("ID", id);
             complains(&scratch, &words, 2, &format!("'{id}' is no id: an id is a number from 1 to 65535"));
         }
     }
@@ -107,6 +108,7 @@ fn wrong_command_lines_are_told_how_they_should_be() {
     complains(&scratch, "", 2, "which command?");
     complains(&scratch, "erase d", 2, "there is no command 'erase'");
     complains(&scratch, "remove d", 2, "ID is missing\nusage: evdisk remove IMAGE ID [--json]\n");
+    complains(&scratch, "replace d 5", 2, "FILE is missing\nusage: evdisk replace IMAGE ID FILE [--json]\n");
     complains(&scratch, "remove d 5 9", 2, "'9' is too much");
     complains(&scratch, "remove d 5 --quick", 2, "--quick is no option of this command");
     complains(&scratch, "read d 5 --first 1 --first 2", 2, "--first stands twice");
@@ -120,6 +122,7 @@ fn files_that_are_not_there_or_not_right_are_named() {
     complains(&scratch, "list none", 3, "none: No such file or directory");
     complains(&scratch, "add d 7 none", 3, "none: No such file or directory");
     complains(&scratch, "add d 7 .", 3, ".: Is a directory");
+    complains(&scratch, "replace d 5 none", 3, "none: No such file or directory");
     complains(&scratch, "list event-5", 3, "event-5.cat: No such file or directory");
     complains(&scratch, "read d 5 --output event-9", 3, "event-9: File exists");
     complains(&scratch, "read d 5 --output d", 3, "d: File exists");
@@ -129,7 +132,7 @@ fn files_that_are_not_there_or_not_right_are_named() {
 }
 
 /// Commands that look at catalogue and image, and others that look at the catalogue alone.
-const BY_BOTH: [&str; 4] = ["add d 7 event-5", "remove d 5", "read d 5", "check d"];
+const BY_BOTH: [&str; 5] = ["add d 7 event-5", "remove d 5", "replace d 5 event-5", "read d 5", "check d"];
 const BY_CATALOGUE: [&str; 4] = ["list d", "breaks d 5", "free d", "map d"];
 
 #[test]

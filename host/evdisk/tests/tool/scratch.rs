@@ -1,5 +1,6 @@
 //! A folder for one test, the tool run in it, and disks to try it on.
 
+use miniseed::Quality;
 use std::collections::BTreeMap;
 use std::fs;
 use std::path::{Path, PathBuf};
@@ -69,6 +70,11 @@ impl Scratch {
             scratch.does(&format!("add d {id} event-{id}"));
         }
         scratch
+    }
+
+    /// Writes an event of so many records to a file, as it comes back from review with this quality letter.
+    pub fn reviewed(&self, name: &str, records: usize, quality: Quality) {
+        self.write(name, &miniseed::event_of(1000 + records as u64, records, quality));
     }
 
     /// A copy of the folder.

@@ -1,6 +1,6 @@
 //! A redo file that is damaged or belongs to another disk is never carried out, and nothing is lost by it.
 
-use crate::cut::{remove, Cut, LINE};
+use crate::cut::{shift, Cut, LINE};
 use crate::scratch::Scratch;
 use evdisk_tool::checksum::checksum;
 
@@ -11,15 +11,15 @@ fn decided() -> Scratch {
 
 /// The same on a disk of case 6 that is there.
 fn decided_on(scratch: Scratch) -> Scratch {
-    let Cut { made, failure, .. } = remove(&scratch, 5, 2);
+    let Cut { made, failure, .. } = shift(&scratch, "remove d 5", 2);
     assert_eq!(made, ["redo file written", "redo file named"]);
-    let told = "the supply failed; the removal is decided, and the next command completes it";
+    let told = "the supply failed; the change is decided, and the next command completes it";
     assert_eq!(failure.expect("it was cut off").to_string(), told);
     scratch
 }
 
 fn complains(scratch: &Scratch, why: &str) {
-    for words in ["list d", "read d 9", "add d 7 event-2", "remove d 9", "format d --force"] {
+    for words in ["list d", "read d 9", "add d 7 event-2", "remove d 9", "replace d 9 event-2", "format d --force"] {
         let (status, complaint) = scratch.refuses(words);
         assert_eq!(status, 3, "evdisk {words}");
         assert!(complaint.starts_with("evdisk: d.redo: "), "evdisk {words}: {complaint}");
@@ -92,7 +92,7 @@ fn a_redo_file_without_its_image_is_kept() {
     std::fs::remove_file(scratch.path("d")).expect("the image");
     let (status, complaint) = scratch.refuses("format d --blocks 16 --force");
     assert_eq!(status, 3);
-    assert!(complaint.starts_with("evdisk: d.redo: a removal waits here for its image"), "{complaint}");
+    assert!(complaint.starts_with("evdisk: d.redo: a removal or replacement waits here for its image"), "{complaint}");
     scratch.write("d", &image);
     assert_eq!(scratch.says("free d").out, "13 blocks free\n");
 }
@@ -117,15 +117,4 @@ fn an_image_that_a_format_left_without_a_catalogue_is_told_of_and_removed_by_han
     assert_eq!((status, complaint.contains("d: is there already")), (3, true), "{complaint}");
     std::fs::remove_file(scratch.path("d")).expect("the image");
     assert_eq!(scratch.does("format d --blocks 2"), "formatted: 2 blocks\n");
-}
-
-#[test]
-fn a_log_that_cannot_be_written_stops_a_removal_before_it_is_decided() {
-    let scratch = Scratch::case_6();
-    let (catalogue, image) = (scratch.read("d.cat"), scratch.read("d"));
-    std::fs::create_dir(scratch.path("d.log")).expect("a folder in the log's place");
-    let said = scratch.says("remove d 5");
-    assert_eq!(said.status, 3);
-    assert!(said.err.starts_with("evdisk: d.log: Is a directory"), "{}", said.err);
-    assert!(scratch.read("d.cat") == catalogue && scratch.read("d") == image && !scratch.path("d.redo").exists());
 }

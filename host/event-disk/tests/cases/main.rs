@@ -2,6 +2,7 @@
 //! that the crate `case_table` proves of the definitions, as catalogue bytes, answers and blocks.
 
 mod free_buddies;
+mod replace;
 mod station;
 
 use event_disk::{Refusal, Version, BLOCK};

@@ -1,6 +1,6 @@
 //! The plain book.
 
-use crate::common::content;
+use crate::common::{content, reviewed};
 use model::{Book, BLOCK};
 
 #[test]
@@ -13,6 +13,21 @@ fn the_book_refuses_by_its_lines_alone() {
     assert!((2..=64).all(|id| book.add(id, &content(id, 1)) == Ok(1)));
     assert_eq!(book.add(65, &content(65, 5)), Err(10));
     assert_eq!((book.free(), book.check(), book.lines().len()), (4, 70, 64));
+}
+
+/// 12 and 13 before 11, and a page more than fits.
+#[test]
+fn the_book_replaces_a_line() {
+    let mut book = Book::new(5);
+    let two = book.add(7, &reviewed(7, b'D', 2)).and(book.add(8, &reviewed(8, b'R', 1)));
+    assert_eq!((two, book.free()), (Ok(1), 2));
+    assert_eq!([book.replace(0, &[]), book.replace(9, &[]), book.replace(7, &[b'M'; 511])], [Err(5), Err(6), Err(8)]);
+    let before = book.clone();
+    let long = [b'B', b'R', b'D', b'Q'].map(|letter| book.replace(7, &reviewed(7, letter, 5)));
+    assert_eq!((long, &book), ([Err(12), Err(13), Err(13), Err(11)], &before));
+    assert_eq!(book.replace(7, &reviewed(7, b'Q', 4)), Ok(()));
+    assert_eq!((book.free(), book.pages(7), book.pages(8), book.lines().len()), (0, 4, 1, 2));
+    assert_eq!(book.read(7, 0, 4 * BLOCK), Ok(&reviewed(7, b'Q', 4)[..]));
 }
 
 #[test]

@@ -42,6 +42,15 @@ pub fn content(id: u16, pages: u32) -> Vec<u8> {
     (0..pages).flat_map(|number| page(id, number)).collect()
 }
 
+/// The content of a file with a quality letter. At its end each page has it too, so that no page is one of another
+/// letter.
+pub fn reviewed(id: u16, letter: u8, pages: u32) -> Vec<u8> {
+    let mut content = content(id, pages);
+    content.chunks_mut(BLOCK).for_each(|page| page[BLOCK - 1] = letter);
+    content[6] = letter;
+    content
+}
+
 /// A disk with its catalogue.
 pub struct Station {
     pub version: Version,
@@ -85,6 +94,14 @@ impl Station {
 
     pub fn remove(&mut self, id: u16) -> Answer {
         model::remove(&mut self.cat, &mut self.disk, id)
+    }
+
+    /// Replaces a file. A refusal changes no byte.
+    pub fn replace(&mut self, id: u16, content: &[u8]) -> Answer {
+        let before = (self.cat.clone(), self.disk.clone());
+        let answer = model::replace(&mut self.cat, &mut self.disk, id, content);
+        assert!(answer.is_ok() || (&self.cat, &self.disk) == (&before.0, &before.1), "a refused call changed a byte");
+        answer
     }
 
     /// Whether a read of the whole file gives its pages in order.

@@ -6,6 +6,7 @@ mod common;
 mod free_buddies;
 mod held_blocks;
 mod refusals;
+mod replace;
 mod soundness;
 mod versions;
 mod wrong_turns;

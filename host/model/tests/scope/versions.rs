@@ -1,7 +1,7 @@
 //! The versions of the catalogue: bytes that are written out, the limits of each, and that none suits another buffer.
 
 use crate::common::{bytes, in_each_version, Station};
-use model::{add, breaks, check, format, free, read, remove, sound, Version, BLOCK};
+use model::{add, breaks, check, format, free, read, remove, replace, sound, Version, BLOCK};
 
 /// Case 7: id 2 at (4,2), id 9 at (7,1), free (0,4) (6,1) (8,8).
 fn case_7(version: Version) -> Station {
@@ -72,6 +72,7 @@ fn no_version_suits_another_buffer() {
             assert_eq!(read(&lent, &disk, 2, 0, &mut [0; BLOCK]), Err(3));
             assert_eq!(add(&mut lent, &mut disk, 1, &[0; BLOCK]), Err(3));
             assert_eq!(remove(&mut lent, &mut disk, 2), Err(3));
+            assert_eq!(replace(&mut lent, &mut disk, 2, &[b'M'; BLOCK]), Err(3));
             assert_eq!((&lent, &disk), (&before.0, &before.1));
         }
     });
@@ -89,6 +90,7 @@ fn other_lengths_of_the_buffer() {
         assert_eq!([free(&lent), breaks(&lent, 0), check(&lent, &disk)], [Err(1); 3], "{length}");
         assert_eq!(read(&lent, &disk, 0, 0, &mut []), Err(1));
         assert_eq!([add(&mut lent, &mut disk, 0, &[]), remove(&mut lent, &mut disk, 0)], [Err(1); 2]);
+        assert_eq!(replace(&mut lent, &mut disk, 0, &[]), Err(1));
         assert_eq!(format(&mut lent, &disk), Err(1));
         assert_eq!(lent, before);
     }

@@ -1,6 +1,7 @@
 //! The hand cases of the scope document, on the twin, in every version.
 
 mod free_buddies;
+mod replace;
 mod station;
 
 use station::{bytes_of, content, Pair, Station};

@@ -1,5 +1,6 @@
 //! One call on the proved manager and on the twin, each with buffers of its own.
 
+pub mod any;
 pub mod numbers;
 
 use event_disk::Refusal;
@@ -18,6 +19,7 @@ pub enum Call {
     Format,
     Add(u16, Vec<u8>),
     Remove(u16),
+    Replace(u16, Vec<u8>),
     Read(u16, u64),
     Breaks(u16),
     Free,
@@ -29,6 +31,7 @@ fn on_proved(call: &Call, b: &mut Buffers) -> Result<u64, u8> {
         Call::Format => event_disk::format(&mut b.cat, &b.disk),
         Call::Add(id, content) => event_disk::add(&mut b.cat, &mut b.disk, *id, content),
         Call::Remove(id) => event_disk::remove(&mut b.cat, &mut b.disk, *id),
+        Call::Replace(id, content) => event_disk::replace(&mut b.cat, &mut b.disk, *id, content),
         Call::Read(id, first) => event_disk::read(&b.cat, &b.disk, *id, *first, &mut b.out),
         Call::Breaks(id) => event_disk::breaks(&b.cat, *id),
         Call::Free => event_disk::free(&b.cat),
@@ -42,6 +45,7 @@ fn on_twin(call: &Call, b: &mut Buffers) -> Result<u64, u8> {
         Call::Format => twin::format(&mut b.cat, &b.disk),
         Call::Add(id, content) => twin::add(&mut b.cat, &mut b.disk, *id, content),
         Call::Remove(id) => twin::remove(&mut b.cat, &mut b.disk, *id),
+        Call::Replace(id, content) => twin::replace(&mut b.cat, &mut b.disk, *id, content),
         Call::Read(id, first) => twin::read(&b.cat, &b.disk, *id, *first, &mut b.out),
         Call::Breaks(id) => twin::breaks(&b.cat, *id),
         Call::Free => twin::free(&b.cat),

@@ -1,8 +1,9 @@
 -- `evdisk::changing::evdisk_add` meets its contract: the outcome of the call, its answer as a number. Assumes nothing.
-use mathlib.Core.Path.{_∙_, ap, refl, sym}
+use mathlib.Core.Path.{_∙_, ap, refl}
 use borrow.Author.Needs.{needs}
 use Rattle.manager.proofs.Untouched.{add-no-output}
 use Rattle.evdisk.specs.Codes.{codeOf}
+use Rattle.evdisk.proofs.Promising.{as-promised}
 use Rattle.evdisk.proofs.changing.evdisk_add.Statement.{statement}
 use Rattle.evdisk.proofs.changing.evdisk_add.Tie as tie
 
@@ -23,24 +24,10 @@ returns c =
     let b = c .before .before .before .before .before in
     let a = b .before .before .before .before .before .before .args in
     let e = b .add .ensures in
-    let number = c .code .ensures .1 ∙ (c .code .ensures .0 ∙ ap codeOf (e .0)) in (
-      number,
-      (
-        e .1 .0,
-        (
-          e .1 .1 .0,
-          (
-            refl,
-            record {
-              answer = number;
-              catalogue = e .1 .0;
-              disk = e .1 .1 .0;
-              output = sym (add-no-output (a .id) (a .content .now) (a .cat .now) (a .disk .now));
-            },
-          ),
-        ),
-      ),
-    )
+    let number = c .code .ensures .1 ∙ (c .code .ensures .0 ∙ ap codeOf (e .0)) in
+    let silent = add-no-output (a .id) (a .content .now) (a .cat .now) (a .disk .now) in
+    let promised = as-promised _ _ _ _ number (e .1 .0) (e .1 .1 .0) silent in
+    (number, (e .1 .0, (e .1 .1 .0, (refl, promised))))
 
 pub evdisk-add-spec : {M : Type 1} → statement M
 evdisk-add-spec = tie.close (tie.spec add-requires code-requires same-length same-length-2 returns)

@@ -48,6 +48,12 @@ enum-told-10 c = search needs
 enum-told-11 : tie.Need-enum-told-11
 enum-told-11 c = search needs
 
+enum-told-12 : tie.Need-enum-told-12
+enum-told-12 c = search needs
+
+enum-told-13 : tie.Need-enum-told-13
+enum-told-13 c = search needs
+
 returns : tie.Need-returns
 returns c =
     let n = c .before .a .given .0 .0 in
@@ -89,6 +95,12 @@ returns-11 c = (sym (ap (λ a. codeOf (replyOf a)) (c .enum-told10 .given .1)), 
 returns-12 : tie.Need-returns-12
 returns-12 c = (sym (ap (λ a. codeOf (replyOf a)) (c .enum-told11 .given .1)), refl)
 
+returns-13 : tie.Need-returns-13
+returns-13 c = (sym (ap (λ a. codeOf (replyOf a)) (c .enum-told12 .given .1)), refl)
+
+returns-14 : tie.Need-returns-14
+returns-14 c = (sym (ap (λ a. codeOf (replyOf a)) (c .enum-told13 .given .1)), refl)
+
 pub code-spec : {M : Type 1} → statement M
 code-spec =
     tie.close
@@ -106,6 +118,8 @@ code-spec =
     enum-told-9
     enum-told-10
     enum-told-11
+    enum-told-12
+    enum-told-13
     returns
     returns-2
     returns-3
@@ -117,4 +131,6 @@ code-spec =
     returns-9
     returns-10
     returns-11
-    returns-12)
+    returns-12
+    returns-13
+    returns-14)

@@ -1,6 +1,6 @@
 -- `event_disk::changing::add` meets its contract: each return has the outcome of the definition. Assumes nothing.
 use mathlib.Core.List.{List, []}
-use mathlib.Core.Path.{_∙_, ap, refl}
+use mathlib.Core.Path.{refl}
 use Prim.Native.Nat.{ℕ}
 use borrow.Author.Needs.{needs}
 use borrow.Author.Tests.{not-false, not-true}
@@ -9,10 +9,9 @@ use Rattle.catalogue.specs.declared.Version.{Version}
 use Rattle.table.specs.Tables.{layoutOf}
 use Rattle.manager.specs.Conditions.{Outcome}
 use Rattle.manager.specs.Outcomes.{addOutcome}
-use Rattle.looking.specs.Answers.{replyOf}
 use Rattle.calls.specs.Changing.{addOn}
 use Rattle.manager.proofs.OnRead.{add-on-read, add-refused}
-use Rattle.event_disk.proofs.Entering.{made-catalogue, made-disk, made-reply, own-rules, shut-out}
+use Rattle.event_disk.proofs.Entering.{made, shut-out, storable}
 use Rattle.event_disk.proofs.changing.add.Statement.{statement}
 use Rattle.event_disk.proofs.changing.add.Tie as tie
 
@@ -43,13 +42,8 @@ store-changed-requires : tie.Need-store-changed-requires
 store-changed-requires c κs =
     let r = c .before .before .before in
     let o = r .before .before .before .before .before .before in
-    let entered = o .«open» .ensures .entered (not-false _ (r .before .before .before .before .if1 .left)) in
-    record {
-      version = o .«open» .ensures .version;
-      bytes = entered .bytes;
-      sized = r .add-in .ensures .sized;
-      rules = own-rules _ _ entered (r .add-in .result) (r .add-in .ensures);
-    }
+    let inside = not-false _ (r .before .before .before .before .if1 .left) in
+    storable _ (o .«open» .result) (o .«open» .ensures) inside (r .add-in .result) (r .add-in .ensures)
 
 same-length-2 : tie.Need-same-length-2
 same-length-2 c = search needs
@@ -71,15 +65,11 @@ returns-2 c =
     let on = read (a .args .id) (a .args .content .now) disk in
     let past : Version → List ℕ → Outcome = λ v z. addOn v l (a .args .id) (a .args .content .now) z disk in
     let full = addOutcome (a .args .id) (a .args .content .now) cat disk in
-    let q = r .add-in .result in
-    let d′ = r .add-in .last .0 in
-    let cat′ = s .store-changed .last .0 in
     let m = r .add-in .ensures in
-    let st = s .store-changed .ensures .1 in
-    let answer = ap replyOf (s .store-changed .ensures .0) ∙ made-reply _ past cat cat′ d′ q m st full on in
-    let catalogue = made-catalogue _ past cat cat′ d′ q m st full on in
-    let after = made-disk _ past cat cat′ d′ q m st full on in
-    (answer, (catalogue, (after, refl)))
+    let st = s .store-changed .ensures in
+    let x = made _ past cat (s .store-changed .last .0) (r .add-in .last .0) (r .add-in .result) m (st .1) full on
+    _ (st .0) in
+    (x .0, (x .1, (x .2, refl)))
 
 pub add-spec : {M : Type 1} → statement M
 add-spec =

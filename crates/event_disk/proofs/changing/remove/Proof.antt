@@ -1,6 +1,6 @@
 -- `event_disk::changing::remove` meets its contract: each return has the outcome of the definition. Assumes nothing.
 use mathlib.Core.List.{List, []}
-use mathlib.Core.Path.{_∙_, ap}
+use mathlib.Core.Path.{refl}
 use Prim.Native.Nat.{ℕ}
 use borrow.Author.Needs.{needs}
 use borrow.Author.Tests.{not-false, not-true}
@@ -9,11 +9,11 @@ use Rattle.catalogue.specs.declared.Version.{Version}
 use Rattle.table.specs.Tables.{layoutOf}
 use Rattle.manager.specs.Conditions.{Outcome}
 use Rattle.manager.specs.Outcomes.{removeOutcome}
-use Rattle.looking.specs.Answers.{replyOf}
 use Rattle.calls.specs.Changing.{removeOn}
 use Rattle.manager.proofs.OnRead.{remove-on-read, remove-refused}
-use Rattle.event_disk.proofs.Entering.{made-catalogue, made-disk, made-reply, own-rules, shut-out}
-use Rattle.event_disk.proofs.RemovalLimit.{removal-within}
+use Rattle.event_disk.proofs.Entering.{made, shut-out, storable}
+use Rattle.event_disk.proofs.RemovalLimit.{within-carries}
+use Rattle.manager.specs.Call.{remove}
 use Rattle.event_disk.proofs.changing.remove.Statement.{statement}
 use Rattle.event_disk.proofs.changing.remove.Tie as tie
 
@@ -33,7 +33,7 @@ returns c =
     let e = remove-refused (versionOf cat) cat (shut .number) (shut .first) (a .args .id) disk in
     let s = shut-out cat disk [] (o .«open» .result .refusal) shut (removeOutcome (a .args .id) cat disk) e in
     let answer = s .0 in
-    (answer, (s .1, (s .2, removal-within cat (a .args .id) disk _ answer)))
+    (answer, (s .1, (s .2, within-carries (remove (a .args .id)) cat (a .args .id) disk _ refl answer)))
 
 remove-in-requires : tie.Need-remove-in-requires
 remove-in-requires c κs =
@@ -44,13 +44,8 @@ store-changed-requires : tie.Need-store-changed-requires
 store-changed-requires c κs =
     let r = c .before .before .before in
     let o = r .before .before .before .before .before .before in
-    let entered = o .«open» .ensures .entered (not-false _ (r .before .before .before .before .if1 .left)) in
-    record {
-      version = o .«open» .ensures .version;
-      bytes = entered .bytes;
-      sized = r .remove-in .ensures .sized;
-      rules = own-rules _ _ entered (r .remove-in .result) (r .remove-in .ensures);
-    }
+    let inside = not-false _ (r .before .before .before .before .if1 .left) in
+    storable _ (o .«open» .result) (o .«open» .ensures) inside (r .remove-in .result) (r .remove-in .ensures)
 
 same-length-2 : tie.Need-same-length-2
 same-length-2 c = search needs
@@ -71,15 +66,11 @@ returns-2 c =
     let on = remove-on-read (versionOf cat) cat l (entered .bytes) (entered .reading) (a .args .id) disk in
     let past : Version → List ℕ → Outcome = λ v z. removeOn v l (a .args .id) z disk in
     let full = removeOutcome (a .args .id) cat disk in
-    let q = r .remove-in .result in
-    let d′ = r .remove-in .last .0 in
-    let cat′ = s .store-changed .last .0 in
     let m = r .remove-in .ensures in
-    let st = s .store-changed .ensures .1 in
-    let answer = ap replyOf (s .store-changed .ensures .0) ∙ made-reply _ past cat cat′ d′ q m st full on in
-    let catalogue = made-catalogue _ past cat cat′ d′ q m st full on in
-    let after = made-disk _ past cat cat′ d′ q m st full on in
-    (answer, (catalogue, (after, removal-within cat (a .args .id) disk _ answer)))
+    let st = s .store-changed .ensures in
+    let x = made _ past cat (s .store-changed .last .0) (r .remove-in .last .0) (r .remove-in .result) m (st .1) full on
+    _ (st .0) in
+    (x .0, (x .1, (x .2, within-carries (remove (a .args .id)) cat (a .args .id) disk _ refl (x .0))))
 
 pub remove-spec : {M : Type 1} → statement M
 remove-spec =

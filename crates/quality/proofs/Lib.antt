@@ -1,0 +1,3 @@
+-- The laws of quality letters.
+pub mod Ranks
+pub mod LetterRanks

@@ -20,7 +20,7 @@ use Rattle.calls.specs.Changing.{Makes, addOn}
 use Rattle.looking.specs.declared.Answer.{Answer}
 use Rattle.catalogue.specs.Encoding.{encode}
 use Rattle.catalogue.specs.declared.Version.{Version}
-use Rattle.layout.specs.Layout.{Layout, freeBlocks, hasFile, isFound}
+use Rattle.layout.specs.Layout.{Layout, freeBlocks, hasFile}
 use Rattle.layout.specs.Moves.{right}
 use Rattle.layout.specs.Sound.{greatestId}
 use Rattle.manager.specs.Conditions.{Outcome, answered, firstRefusal, outcome, refusal, refused, unlessRefused}
@@ -28,17 +28,8 @@ use Rattle.manager.specs.Conditions.{wrongDisk}
 use Rattle.manager.specs.Disk.{pageCount}
 use Rattle.manager.specs.Outcomes.{addPieces}
 use Rattle.section.specs.Limits.{blockSize, mostFiles}
-use Rattle.table.proofs.Released.{find-at, find-none}
-use Rattle.table.specs.Files.{hasId}
-use Rattle.piece_lists.specs.Places.{IsPlace, firstPlace}
 use Rattle.table.specs.Tables.{filesOf, layoutOf}
 use Rattle.table.specs.declared.Table.{Table}
-
--- ---- the tests of the code
-
-place-fresh : (t : Table) → Opened t → (i r : ℕ) → IsPlace (t .count) (firstPlace (hasId i) (filesOf t)) r
-    → t .count ≤ r → hasFile i (filesOf t) ≡ false
-place-fresh t o i r p le = ap isFound (find-none t i r (omega (arith, o .array, o .sized .files)) (p .place) le)
 
 -- ---- the refusals
 
@@ -67,19 +58,10 @@ module _ (t : Table) (o : Opened t) (i : ℕ) (bs d : List ℕ) where
     refuse-zero z = refuse 5 Answer·.IdZero refl (judge-5 (layoutOf t) i bs d right-disk (eq-eqb i 0 z))
 
     module _ (some : i ≡ 0 → ⊥) where
-      pub refuse-there : (r : ℕ) → IsPlace (t .count) (firstPlace (hasId i) (filesOf t)) r → r < t .count
-          → Refuses Answer·.IdThere
-      unfolding layoutOf
-      refuse-there r p lt =
-          refuse 7 Answer·.IdThere refl
-          (judge-7 (layoutOf t) i bs d right-disk (ne-eqb i 0 some)
-          (ap isFound (find-at t i r (omega (arith, o .array, o .sized .files)) (p .place) lt)))
+      pub refuse-there : hasFile i (layoutOf t .files) ≡ true → Refuses Answer·.IdThere
+      refuse-there e = refuse 7 Answer·.IdThere refl (judge-7 (layoutOf t) i bs d right-disk (ne-eqb i 0 some) e)
 
-      module _ (r : ℕ) (p : IsPlace (t .count) (firstPlace (hasId i) (filesOf t)) r) (le : t .count ≤ r) where
-        fresh : hasFile i (layoutOf t .files) ≡ false
-        unfolding layoutOf
-        fresh = place-fresh t o i r p le
-
+      module _ (fresh : hasFile i (layoutOf t .files) ≡ false) where
         pub refuse-empty : length bs ≡ 0 → Refuses Answer·.BufferLength
         refuse-empty z =
             refuse 8 Answer·.BufferLength refl
@@ -111,12 +93,13 @@ module _ (t : Table) (o : Opened t) (i : ℕ) (bs d : List ℕ) where
             -- nothing refuses
             pub can-add : t .count < mostFiles → (f : ℕ) → IsFree t f → pageCount bs ≤ f → i ≤ greatestId
                 → CanAdd t i (pageCount bs) (length d) bs
+            unfolding layoutOf
             can-add m f q s high = record {
               opened = o;
               disk = right;
               least = omega (arith, some);
               most = high;
-              fresh = place-fresh t o i r p le;
+              fresh = fresh;
               paged = whole-paged bs full whole;
               few = m;
               fits = omega (arith, q .equal);

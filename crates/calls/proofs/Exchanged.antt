@@ -36,7 +36,7 @@ module _ (t : Table) (i id n : ℕ) (bs d : List ℕ) (c : CanExchange t i id n 
   pub exchange-can-take : CanTakeOut t i (length d)
   exchange-can-take =
       remove-can-take t (c .compared .opened) id d (c .compared .disk) (λ z. omega (arith, c .compared .least)) i
-      (c .compared .place .place) (c .compared .there)
+      (c .compared .place)
 
   module _ (d′ : List ℕ) (s : Settled) (e : TakesOut t i d d′ s) (same : length d′ ≡ length d) where
     room : RoomAfter (layoutOf t) id (fileAt t i) (layoutOf (s .table))
@@ -50,7 +50,7 @@ module _ (t : Table) (i id n : ℕ) (bs d : List ℕ) (c : CanExchange t i id n 
     left-blocks =
         ap (λ (l : Layout). l .blocks) (e .layout)
         ∙ removed-blocks t (c .compared .opened) id d (c .compared .disk) (λ z. omega (arith, c .compared .least)) i
-        (c .compared .place .place) (c .compared .there)
+        (c .compared .place)
 
     -- what placing the new one asks for
     pub exchange-can-add : CanAdd (s .table) id n (length d′) bs

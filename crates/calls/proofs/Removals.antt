@@ -2,12 +2,13 @@
 use mathlib.Core.Bool.{true}
 use mathlib.Core.List.{List, [], _∷_}
 use mathlib.Core.Path.{_∙_, _≡_, ap, ap₂, refl, sym}
-use Prim.Native.Nat.{_*_, _<_, _≤_, ℕ}
+use Prim.Native.Nat.{_*_, ℕ}
 use native.Mathlib.Omega.{arith}
 use lib.ListN.{length}
 use Rattle.calls.proofs.Refusing.{refused-makes}
 use Rattle.calls.specs.Refusing.{refusing}
 use Rattle.looking.proofs.LookChecks.{disk-right, disk-wrong, id-found, id-missing, id-zero}
+use Rattle.looking.proofs.LookedUp.{looked-found}
 use Rattle.looking.specs.declared.Answer.the-variants as Answer·
 use Rattle.looking.specs.Opened.{Opened}
 use Rattle.calls.specs.Changing.{Makes, removeOn}
@@ -18,15 +19,14 @@ use Rattle.catalogue.specs.declared.Version.{Version}
 use Rattle.layout.proofs.Finding.{found-find}
 use Rattle.layout.proofs.Removed.{removal-keeps}
 use Rattle.layout.proofs.Soundness.{sound-sums}
-use Rattle.layout.specs.Layout.{Layout, findFile, found}
+use Rattle.layout.specs.Layout.{Layout, findFile, found, missing}
 use Rattle.layout.specs.Removing.{layoutAfter, release}
 use Rattle.manager.specs.Conditions.{answered, condition, fileChecks, firstRefusal, unlessRefused, wrongDisk}
 use Rattle.manager.specs.Outcomes.{afterMerges, removeFound}
 use Rattle.section.specs.Limits.{blockSize, heightCount}
-use Rattle.table.proofs.Released.{find-at, find-none, first-of-id}
-use Rattle.table.specs.Files.{hasId}
-use Rattle.piece_lists.specs.Places.{firstPlace}
-use Rattle.table.specs.Tables.{filesOf, layoutOf}
+use Rattle.table.proofs.Released.{first-of-id}
+use Rattle.table.specs.LookUps.{FirstOf}
+use Rattle.table.specs.Tables.{layoutOf}
 use Rattle.table.specs.declared.Table.{Table}
 
 module _ (t : Table) (op : Opened t) (id : ℕ) (d : List ℕ) where
@@ -48,25 +48,25 @@ module _ (t : Table) (op : Opened t) (id : ℕ) (d : List ℕ) where
     remove-id-zero e =
         refused-makes _ 5 (past-disk ∙ id-zero (layoutOf t) id [] e) Answer·.IdZero refl d _ t (op .sized)
 
-    module _ (nz : id ≡ 0 → ⊥) (i : ℕ) (at : i ≡ firstPlace (hasId id) (filesOf t)) where
-      most : t .count ≤ length (t .files)
-      most = omega (arith, op .array, op .sized .files)
-
-      pub remove-missing : t .count ≤ i
+    module _ (nz : id ≡ 0 → ⊥) where
+      pub remove-missing : findFile id (layoutOf t .files) ≡ missing
           → Makes (t .blocks) (λ v cat. removeOn v (layoutOf t) id cat d) d (refusing Answer·.IdMissing t)
-      unfolding layoutOf
-      remove-missing le =
-          refused-makes _ 6 (past-disk ∙ id-missing (layoutOf t) id [] nz (find-none t id i most at le))
-          Answer·.IdMissing refl d _ t (op .sized)
+      remove-missing e =
+          refused-makes _ 6 (past-disk ∙ id-missing (layoutOf t) id [] nz e) Answer·.IdMissing refl d _ t (op .sized)
 
-      module _ (lt : i < t .count) where
+      module _ (i : ℕ) (x : FirstOf t id i) where
         there : findFile id (layoutOf t .files) ≡ found (fileAt t i)
-        unfolding layoutOf
-        there = find-at t id i most at lt
+        there = looked-found t op id i x
 
         -- what taking the file out asks for
         pub remove-can-take : CanTakeOut t i (length d)
-        remove-can-take = record { opened = op; disk = ld; there = lt; first = first-of-id t id i most at lt }
+        remove-can-take =
+            record {
+              opened = op;
+              disk = ld;
+              there = x .within;
+              first = first-of-id t id i (omega (arith, op .array, op .sized .files)) (x .first) (x .within);
+            }
 
         outcome-is : (v : Version) (cat : List ℕ)
             → removeOn v (layoutOf t) id cat d

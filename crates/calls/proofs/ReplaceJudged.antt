@@ -90,7 +90,7 @@ module _ (t : Table) (i id : ℕ) (bs d : List ℕ) (c : CanCompare t i id bs d)
   RefusesFound a = Refuses t (c .opened) id bs d a
 
   there : findFile id (layoutOf t .files) ≡ found (fileAt t i)
-  there = looked-found t (c .opened) id i (c .place) (λ e. omega (arith, c .there))
+  there = looked-found t (c .opened) id i (c .place)
 
   right-length : length d ≡ blockSize * layoutOf t .blocks
   unfolding layoutOf
@@ -100,13 +100,13 @@ module _ (t : Table) (i id : ℕ) (bs d : List ℕ) (c : CanCompare t i id bs d)
   pub compared-fits : EntryFits (length d) (entryAt t i)
   compared-fits =
       subst (λ z. EntryFits z (entryAt t i)) (sym (c .disk))
-      (looked-fits t (c .opened) id i (c .place) (λ e. omega (arith, c .there)))
+      (looked-fits t (c .opened) id i (c .place))
 
   pub compared-some : 1 ≤ blockCount (piecesIn (entryAt t i))
-  compared-some = looked-some t (c .opened) id i (c .place) (λ e. omega (arith, c .there))
+  compared-some = looked-some t (c .opened) id i (c .place)
 
   pub compared-low : LowEntry (entryAt t i)
-  compared-low = looked-low t (c .opened) id i (c .place) (λ e. omega (arith, c .there))
+  compared-low = looked-low t (c .opened) id i (c .place)
 
   past-content : firstRefusal (checks t (c .opened) id bs d) ≡ firstRefusal (from-12 t (c .opened) id bs d)
   past-content =

@@ -2,17 +2,16 @@
 use mathlib.Core.Bool.{false}
 use mathlib.Core.List.{List}
 use mathlib.Core.Path.{_≡_}
-use Prim.Native.Nat.{_*_, _<_, _≤_, ℕ}
+use Prim.Native.Nat.{_*_, _≤_, ℕ}
 use lib.ListN.{length}
 use Rattle.section.specs.Limits.{blockSize}
 use Rattle.layout.specs.Sound.{greatestId}
 use Rattle.manager.specs.Changes.{CanReplace}
 use Rattle.manager.specs.Conditions.{unpaged}
 use Rattle.manager.specs.Disk.{pageCount}
-use Rattle.piece_lists.specs.Places.{IsPlace, firstPlace}
 use Rattle.table.specs.declared.Table.{Table}
-use Rattle.table.specs.Files.{hasId}
-use Rattle.table.specs.Tables.{filesOf, layoutOf}
+use Rattle.table.specs.LookUps.{FirstOf}
+use Rattle.table.specs.Tables.{layoutOf}
 use Rattle.looking.specs.Opened.{Opened}
 use Rattle.calls.specs.TakingOut.{fileAt}
 
@@ -22,8 +21,7 @@ pub record CanCompare (t : Table) (i id : ℕ) (bs d : List ℕ) : Type 0 where
   pub disk : length d ≡ blockSize * t .blocks
   pub least : 1 ≤ id
   pub most : id ≤ greatestId
-  pub place : IsPlace (t .count) (firstPlace (hasId id) (filesOf t)) i
-  pub there : i < t .count
+  pub place : FirstOf t id i
   pub paged : unpaged bs ≡ false
 
 -- nor does any other, and n is the number of the content's pages

@@ -13,6 +13,7 @@ use looking::Answer;
 use looking::free_in;
 use section::Section;
 use table::Entry;
+use table::FileAt;
 use table::Table;
 
 // The file's pieces taken, its pages written, and the table with it.
@@ -38,8 +39,9 @@ fn add_file(disk: &mut [u8], t: Table, id: u16, content: &[u8]) -> Changed
     ensures { λ r. ⌜ Makes (t .blocks) (λ v cat. addOn v (layoutOf t) id (now (content .entry)) cat (now (disk .entry)))
         (now (disk .exit)) r ⌝ }
 {
-    let at = t.find(id as u32);
-    if at < t.count {
+    let looked = t.look_up(id as u32);
+    let file = looked.file;
+    if let FileAt::Place(_) = file {
         return kept(t, Answer::IdThere);
     }
     if content.len() == 0 {

@@ -10,6 +10,7 @@ use looking::Answer;
 use section::Section;
 use settling::Settled;
 use settling::settle;
+use table::FileAt;
 use table::Table;
 
 // The file at place `i` taken out: it is released, and its pieces are merged with the free ones to the end.
@@ -33,10 +34,11 @@ pub fn remove_in(disk: &mut [u8], t: Table, id: u16) -> Changed
     if id == 0 {
         return kept(t, Answer::IdZero);
     }
-    let i = t.find(id as u32);
-    if i >= t.count {
+    let looked = t.look_up(id as u32);
+    let file = looked.file;
+    let FileAt::Place(i) = file else {
         return kept(t, Answer::IdMissing);
-    }
+    };
     let s = take_out(disk, t, i);
     let table = s.table;
     Changed {

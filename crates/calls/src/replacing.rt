@@ -11,6 +11,7 @@ use looking::Answer;
 use looking::free_in;
 use quality::Letter;
 use section::Section;
+use table::FileAt;
 use table::Table;
 
 // The file at place `i` taken out, and the new one of its id placed: the answer is the blocks that were copied.
@@ -72,10 +73,11 @@ pub fn replace_in(disk: &mut [u8], t: Table, id: u16, content: &[u8]) -> Changed
     if id == 0 {
         return kept(t, Answer::IdZero);
     }
-    let i = t.find(id as u32);
-    if i == t.count {
+    let looked = t.look_up(id as u32);
+    let file = looked.file;
+    let FileAt::Place(i) = file else {
         return kept(t, Answer::IdMissing);
-    }
+    };
     if content.len() == 0 {
         return kept(t, Answer::BufferLength);
     }

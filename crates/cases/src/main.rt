@@ -1,9 +1,10 @@
-// The cases that are executed: the limits, every refusal of every call, and every call in buffers around the lengths of
-// the catalogues; with the small catalogue and with the large one, whose lines are marked.
+// The cases that are executed: the limits, look-ups, every refusal of every call, and every call in buffers around the
+// lengths of the catalogues; with the small catalogue and with the large one, whose lines are marked.
 mod asking;
 mod buffers;
 mod lent;
 mod limits;
+mod look_ups;
 mod printing;
 mod refusals;
 mod replacing;
@@ -21,6 +22,7 @@ fn print_limits(cat: &mut [u8], size: Size) {
     replacing::print_spaces(cat, size);
     replacing::print_last_file(cat, size);
     replacing::print_result(cat, size);
+    look_ups::print_look_ups(cat, size);
 }
 
 // Writes the lines of the refusals of all calls.

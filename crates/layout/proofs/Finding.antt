@@ -8,7 +8,7 @@ use lib.Dec.{eqb, leb}
 use lib.ListN.{length}
 use borrow.Author.Tests.{eq-eqb, eqb-false, eqb-true, ne-eqb}
 use Rattle.layout.proofs.Lists.{each-append, each-left, each-right, sum-append}
-use Rattle.layout.specs.Layout.{File, Found, byId, filePieces, findFile, found, hasFile, isFound}
+use Rattle.layout.specs.Layout.{File, Found, byId, filePieces, findFile, found, hasFile, isFound, missing}
 use Rattle.layout.specs.Lists.{Each, done, insertBy, more, next, sumOf}
 use Rattle.layout.specs.Moves.{same}
 use Rattle.layout.specs.Removals.{Find, here, there}
@@ -38,6 +38,19 @@ found-find i l f e =
     let x = find i l (ap isFound e) in
     let same : x .0 ≡ f = let p = find-found (x .2) in cc in
     (x .1, subst (λ g. Find i l g (x .1)) same (x .2))
+
+-- among no files none is found; a file of the id is found, and one of another id passed
+pub find-nil : (i : ℕ) → findFile i [] ≡ missing
+unfolding findFile
+find-nil i = refl
+
+pub find-here : (i : ℕ) (f : File) (l : List File) → f .id ≡ i → findFile i (f ∷ l) ≡ found f
+unfolding findFile
+find-here i f l e = rw (eq-eqb (f .id) i e, findFile)
+
+pub find-past : (i : ℕ) (f : File) (l : List File) → (f .id ≡ i → ⊥) → findFile i (f ∷ l) ≡ findFile i l
+unfolding findFile
+find-past i f l n = rw (ne-eqb (f .id) i n, findFile)
 
 -- no file has an id that is not found
 pub missing-none : (i : ℕ) (l : List File) → hasFile i l ≡ false → Each (λ (f : File). f .id ≡ i → ⊥) l

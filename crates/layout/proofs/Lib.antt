@@ -31,6 +31,7 @@ pub mod CarryBound
 pub mod UnsoundCases
 pub mod SoundSums
 pub mod Finding
+pub mod LookingUp
 pub mod Removed
 pub mod Added
 pub mod PiecesFrom
@@ -54,6 +55,7 @@ pub mod OneBuddyPair
 pub mod PageOrder
 pub mod LayoutCases
 pub mod BuddyCases
+pub mod LookUpCases
 pub mod AddCases
 pub mod LowestTwo
 pub mod LowerHalves

@@ -10,6 +10,7 @@ ghost use Rattle.looking.specs.Answers.{replyOf};
 ghost use Rattle.looking.specs.Opened.{Opened};
 use crate::Answer;
 use table::Entry;
+use table::FileAt;
 use table::Table;
 
 // The pieces of a file less one.
@@ -30,10 +31,11 @@ pub fn breaks_in(t: Table, id: u16) -> Answer
     if id == 0 {
         return Answer::IdZero;
     }
-    let i = t.find(id as u32);
-    if i == t.count {
+    let looked = t.look_up(id as u32);
+    let file = looked.file;
+    let FileAt::Place(i) = file else {
         return Answer::IdMissing;
-    }
+    };
     let files = t.files;
     let e = files[i];
     let n = breaks_of(e);

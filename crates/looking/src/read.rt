@@ -7,6 +7,7 @@ ghost use Rattle.looking.specs.Answers.{replyOf};
 ghost use Rattle.looking.specs.Opened.{Opened, readOn};
 use crate::Answer;
 use section::Section;
+use table::FileAt;
 use table::Table;
 
 // Fills the output with a file's pages from `first` on.
@@ -23,10 +24,11 @@ pub fn read_in(disk: &[u8], t: Table, id: u16, first: u64, out: &mut [u8]) -> An
     if id == 0 {
         return Answer::IdZero;
     }
-    let i = t.find(id as u32);
-    if i == t.count {
+    let looked = t.look_up(id as u32);
+    let file = looked.file;
+    let FileAt::Place(i) = file else {
         return Answer::IdMissing;
-    }
+    };
     if out.len() == 0 {
         return Answer::BufferLength;
     }

@@ -4,6 +4,7 @@ pub mod MapFirst
 pub mod FileLists
 pub mod FreeLists
 pub mod Released
+pub mod LookUps
 pub mod MergedTable
 pub mod FilesMoving
 pub mod NextPair

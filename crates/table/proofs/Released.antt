@@ -8,7 +8,7 @@ use lib.Dec.{eqb}
 use lib.ListN.{List·getD-map, drop, getD, length, length-map, take}
 use lib.Seq.{getD-take, length-take-le}
 use Rattle.layout.proofs.Finding.{find-id, found-find}
-use Rattle.layout.specs.Layout.{File, Found, findFile, found, missing}
+use Rattle.layout.specs.Layout.{File, Found, findFile, found}
 use Rattle.layout.specs.Removing.{insertAll, release, withoutFile}
 use Rattle.table.proofs.FileLists.{files-released}
 use Rattle.table.specs.Files.{entryAt, hasId, noEntry}
@@ -30,17 +30,6 @@ place-found i d (f ∷ l) p = go (eqb (f .id) i) p (λ q. place-found i d l q)
     go true q k = refl
     go false q k = k (omega arith)
 
-pub place-missing : (i : ℕ) (l : List File) → length l ≤ firstPlace (hasId i) l → findFile i l ≡ missing
-unfolding findFile firstPlace
-place-missing i [] p = refl
-place-missing i (f ∷ l) p = go (eqb (f .id) i) p (λ q. place-missing i l q)
-  where
-    go : (t : Bool) → suc (length l) ≤ elim t as (λ _. ℕ) [ true ↦ 0 | false ↦ suc (firstPlace (hasId i) l) ]
-        → (length l ≤ firstPlace (hasId i) l → findFile i l ≡ missing)
-        → elim t as (λ _. Found) [ true ↦ found f | false ↦ findFile i l ] ≡ missing
-    go true q k = absurd (omega arith)
-    go false q k = k (omega arith)
-
 without-place : (i : ℕ) (l : List File) → withoutAt (firstPlace (hasId i) l) l ≡ withoutFile i l
 unfolding withoutFile firstPlace withoutAt
 without-place i [] = refl
@@ -59,19 +48,20 @@ unfolding filesOf
 length-files t most =
     length-map (take (t .count) (t .files)) fileOf ∙ length-take-le (t .count) (t .files) most
 
--- the place that `find` answers
+-- the file at a place
+pub file-at : (t : Table) (i : ℕ) → i < t .count → getD (filesOf t) i (fileOf noEntry) ≡ fileOf (entryAt t i)
+unfolding filesOf
+file-at t i lt =
+    List·getD-map fileOf (take (t .count) (t .files)) i noEntry
+    ∙ ap fileOf (getD-take (t .count) (t .files) i noEntry lt)
+
+-- the place of the first file of an id
 module _ (t : Table) (id i : ℕ) (most : t .count ≤ length (t .files))
     (at : i ≡ firstPlace (hasId id) (filesOf t)) where
   pub find-at : i < t .count → findFile id (filesOf t) ≡ found (fileOf (entryAt t i))
-  unfolding filesOf
   find-at lt =
       place-found id (fileOf noEntry) (filesOf t) (omega (arith, length-files t most))
-      ∙ ap found (ap (λ k. getD (filesOf t) k (fileOf noEntry)) (sym at)
-      ∙ (List·getD-map fileOf (take (t .count) (t .files)) i noEntry
-      ∙ ap fileOf (getD-take (t .count) (t .files) i noEntry lt)))
-
-  pub find-none : t .count ≤ i → findFile id (filesOf t) ≡ missing
-  find-none le = place-missing id (filesOf t) (omega (arith, length-files t most))
+      ∙ ap found (ap (λ k. getD (filesOf t) k (fileOf noEntry)) (sym at) ∙ file-at t i lt)
 
   pub id-at : i < t .count → entryAt t i .id ≡ id
   id-at lt = find-id (found-find id (filesOf t) (fileOf (entryAt t i)) (find-at lt) .1)

@@ -2,4 +2,5 @@
 pub mod Tables
 pub mod Moves
 pub mod Files
+pub mod LookUps
 pub mod Merges

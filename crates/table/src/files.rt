@@ -1,10 +1,9 @@
-// The files of a table: one is found by its id, one is put in by rising id.
+// The files of a table: one is put in by rising id.
 ghost use Prim.Native.Nat.{_<_, _≤_};
 ghost use Rattle.section.specs.Limits.{mostFiles};
-ghost use Rattle.piece_lists.specs.Places.{IsPlace, firstPlace};
 ghost use Rattle.free_pieces.specs.Free.{freePlaces};
-ghost use Rattle.table.specs.Tables.{InPlaces, Sized, filesOf};
-ghost use Rattle.table.specs.Files.{Adds, hasId};
+ghost use Rattle.table.specs.Tables.{InPlaces, Sized};
+ghost use Rattle.table.specs.Files.{Adds};
 use crate::Entry;
 use crate::Table;
 use free_pieces::Free;
@@ -40,25 +39,5 @@ pub fn with_file(t: Table, e: Entry, free: Free) -> Table
         count: m + 1,
         files,
         free,
-    }
-}
-
-impl Table {
-    // The place of the file of an id: how many files stand before it, or the number of files if there is none.
-    pub fn find(self, id: u32) -> usize
-        requires { ⌜ self .count ≤ mostFiles ⌝ }
-        ensures { λ r. ⌜ IsPlace (self .count) (firstPlace (hasId id) (filesOf self)) r ⌝ }
-    {
-        let m = self.count;
-        let files = self.files;
-        let mut j: usize = 0;
-        while j < m {
-            let e = files[j];
-            if e.id == id {
-                return j;
-            }
-            j += 1;
-        }
-        j
     }
 }

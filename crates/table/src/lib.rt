@@ -1,4 +1,4 @@
-// A layout as a value: its files in an array and its free pieces, a file added, released and moved, two sections merged.
+// A layout as a value: its files in an array and its free pieces, a file looked up, added, released and moved, two sections merged.
 // No bytes.
 //
 // A list is the first `count` items of an array, so each value stands for one list of the definitions: `Entry` for a file
@@ -8,6 +8,7 @@ use piece_lists::Pieces;
 use section::Section;
 
 mod files;
+mod look_up;
 mod merges;
 mod moves;
 mod release;
@@ -27,4 +28,16 @@ pub struct Table {
     pub count: usize,
     pub files: [Entry; Section::MOST_FILES],
     pub free: Free,
+}
+
+// Where the file of an id stands, by how many files stand before it; or that there is none.
+pub enum FileAt {
+    Place(usize),
+    Missing,
+}
+
+// What a look-up gives: the file or none, and the number of ids read.
+pub struct LookedUp {
+    pub file: FileAt,
+    pub read: usize,
 }

@@ -43,9 +43,9 @@ impl Table {
         &self.files[..self.count]
     }
 
-    /// The place of the file of an id.
+    /// The place of the file of an id. Ids are read up to the one sought or the first larger one.
     pub fn find(&self, id: u32) -> Option<usize> {
-        self.files().iter().position(|entry| entry.id == id)
+        self.files().iter().take_while(|entry| entry.id <= id).position(|entry| entry.id == id)
     }
 
     pub fn push(&mut self, entry: Entry) {

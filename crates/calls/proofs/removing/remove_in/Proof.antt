@@ -1,6 +1,7 @@
 -- `calls::removing::remove_in` meets its contract: the refusals by their conditions, then the file is taken out.
 -- Assumes nothing.
 use borrow.Author.Needs.{needs}
+use Rattle.looking.proofs.LookedUp.{looked-first, looked-missing, opened-rises}
 use Rattle.calls.proofs.Refusing.{made-as}
 use Rattle.calls.proofs.Removals.{remove-can-take, remove-id-zero, remove-makes, remove-missing}
 use Rattle.calls.proofs.Removals.{remove-wrong-disk}
@@ -33,28 +34,38 @@ returns-2 c =
     made-as (c .kept2 .ensures)
     (remove-id-zero (a .args .t) (a .pre) (a .args .id) (a .args .disk .now) (b .before .if1 .left) (b .if2 .taken))
 
-find-requires : tie.Need-find-requires
-find-requires c κs = c .before .before .before .before .pre .sized .files
+look-up-requires : tie.Need-look-up-requires
+look-up-requires c κs =
+    let a = c .before .before .before .before in
+    (a .pre .sized .files, opened-rises (a .args .t) (a .pre))
+
+enum-known-file : tie.Need-enum-known-file
+enum-known-file c = search needs
+
+enum-told : tie.Need-enum-told
+enum-told c = search needs
 
 kept-requires-3 : tie.Need-kept-requires-3
 kept-requires-3 c κs = search needs
 
 returns-3 : tie.Need-returns-3
 returns-3 c =
-    let b = c .before in
-    let f = b .before .before in
-    let a = f .before .before .before .before .before in
+    let k = c .before .before .before in
+    let a = k .before .before .before .before .before in
     made-as (c .kept3 .ensures)
-    (remove-missing (a .args .t) (a .pre) (a .args .id) (a .args .disk .now) (f .before .before .if1 .left)
-    (f .before .if2 .left)
-    (f .find .result) (f .find .ensures .place) (b .if3 .taken))
+    (remove-missing (a .args .t) (a .pre) (a .args .id) (a .args .disk .now) (k .before .before .if1 .left)
+    (k .before .if2 .left)
+    (looked-missing (a .args .t) (a .pre) (a .args .id) (k .look-up .result) (k .look-up .ensures)
+    (c .before .enum-told .given .1)))
 
 take-out-requires : tie.Need-take-out-requires
 take-out-requires c κs =
-    let b = c .before .before .before in
-    let a = b .before .before .before .before .before in
-    remove-can-take (a .args .t) (a .pre) (a .args .id) (a .args .disk .now) (b .before .before .if1 .left)
-    (b .before .if2 .left) (b .find .result) (b .find .ensures .place) (c .before .if3 .left)
+    let f = c .before .before .file .given in
+    let k = c .before .before .before .before in
+    let a = k .before .before .before .before .before in
+    remove-can-take (a .args .t) (a .pre) (a .args .id) (a .args .disk .now) (k .before .before .if1 .left)
+    (k .before .if2 .left) (f .0 .0)
+    (looked-first (a .args .t) (a .pre) (a .args .id) (k .look-up .result) (k .look-up .ensures) (f .1))
 
 same-length : tie.Need-same-length
 same-length c = search needs
@@ -62,10 +73,12 @@ same-length c = search needs
 returns-4 : tie.Need-returns-4
 returns-4 c =
     let s = c .before .before .before in
-    let b = s .before .before .before .before in
-    let a = b .before .before .before .before .before in
-    remove-makes (a .args .t) (a .pre) (a .args .id) (a .args .disk .now) (b .before .before .if1 .left)
-    (b .before .if2 .left) (b .find .result) (b .find .ensures .place) (s .before .before .if3 .left) _
+    let f = s .before .before .before .file .given in
+    let k = s .before .before .before .before .before in
+    let a = k .before .before .before .before .before in
+    remove-makes (a .args .t) (a .pre) (a .args .id) (a .args .disk .now) (k .before .before .if1 .left)
+    (k .before .if2 .left) (f .0 .0)
+    (looked-first (a .args .t) (a .pre) (a .args .id) (k .look-up .result) (k .look-up .ensures) (f .1)) _
     (s .take-out .result) (s .take-out .ensures)
 
 pub remove-in-spec : {M : Type 1} → statement M
@@ -78,7 +91,9 @@ remove-in-spec =
     returns
     kept-requires-2
     returns-2
-    find-requires
+    look-up-requires
+    enum-known-file
+    enum-told
     kept-requires-3
     returns-3
     take-out-requires

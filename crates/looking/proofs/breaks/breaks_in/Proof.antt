@@ -1,55 +1,83 @@
 -- `looking::breaks::breaks_in` meets its contract: each refusal in its turn, else the breaks of the file. Assumes
 -- nothing.
+use native.Mathlib.Omega.{arith}
 use borrow.Author.Needs.{needs}
 use Rattle.table.specs.Files.{entryAt}
 use Rattle.table.specs.Tables.{fileOf, layoutOf}
 use Rattle.looking.proofs.LookJudged.{breaks-found, breaks-missing, breaks-zero}
-use Rattle.looking.proofs.LookedUp.{looked-count, looked-found, looked-missing, looked-some}
-use Rattle.looking.proofs.LookedUp.{looked-missing, looked-some}
+use Rattle.looking.proofs.LookedUp.{looked-count, looked-first, looked-found, looked-missing, looked-some}
+use Rattle.looking.proofs.LookedUp.{opened-rises}
 use Rattle.looking.proofs.breaks.breaks_in.Statement.{statement}
 use Rattle.looking.proofs.breaks.breaks_in.Tie as tie
 
 returns : tie.Need-returns
 returns c = let a = c .before .args in breaks-zero (layoutOf (a .t)) (a .id) (c .if1 .taken)
 
-find-requires : tie.Need-find-requires
-find-requires c κs = search needs
+look-up-requires : tie.Need-look-up-requires
+look-up-requires c κs = let s = c .before in (s .pre .sized .files, opened-rises (s .args .t) (s .pre))
+
+enum-known-file : tie.Need-enum-known-file
+enum-known-file c = search needs
+
+enum-told : tie.Need-enum-told
+enum-told c = search needs
 
 returns-2 : tie.Need-returns-2
 returns-2 c =
-    let s = c .before .before .before .before in
+    let k = c .before .before in
+    let s = k .before .before in
     let a = s .args in
-    let f = c .before .before .find in
-    breaks-missing (layoutOf (a .t)) (a .id) (c .before .before .before .if1 .left)
-    (looked-missing (a .t) (s .pre) (a .id) (f .result) (f .ensures) (c .if2 .taken))
+    breaks-missing (layoutOf (a .t)) (a .id) (k .before .if1 .left)
+    (looked-missing (a .t) (s .pre) (a .id) (k .look-up .result) (k .look-up .ensures) (c .enum-told .given .1))
 
 mul-e : tie.Need-mul-e
-mul-e c = search needs
+mul-e c =
+    let f = c .before .before .file .given in
+    let k = c .before .before .before .before in
+    let s = k .before .before in
+    let x = looked-first (s .args .t) (s .pre) (s .args .id) (k .look-up .result) (k .look-up .ensures) (f .1) in
+    search (needs, x .within, s .pre .sized .files)
 
 array-copy-out-e : tie.Need-array-copy-out-e
-array-copy-out-e c = search needs
+array-copy-out-e c =
+    let f = c .before .before .file .given in
+    let k = c .before .before .before .before in
+    let s = k .before .before in
+    let x = looked-first (s .args .t) (s .pre) (s .args .id) (k .look-up .result) (k .look-up .ensures) (f .1) in
+    omega (arith, x .within, s .pre .sized .files)
 
 breaks-of-requires : tie.Need-breaks-of-requires
 breaks-of-requires c κs =
-    let s = c .before .before .before .before .before .before in
+    let f = c .before .before .before .file .given in
+    let k = c .before .before .before .before .before in
+    let s = k .before .before in
     let a = s .args in
-    let f = c .before .before .before .before .find in
-    let n = c .before .before .if2 .left in (
-      looked-some (a .t) (s .pre) (a .id) (f .result) (f .ensures) n,
-      looked-count (a .t) (s .pre) (a .id) (f .result) (f .ensures) n,
+    let x = looked-first (a .t) (s .pre) (a .id) (k .look-up .result) (k .look-up .ensures) (f .1) in (
+      looked-some (a .t) (s .pre) (a .id) (f .0 .0) x,
+      looked-count (a .t) (s .pre) (a .id) (f .0 .0) x,
     )
 
 returns-3 : tie.Need-returns-3
 returns-3 c =
-    let s = c .before .before .before .before .before .before .before in
+    let f = c .before .before .before .before .file .given in
+    let k = c .before .before .before .before .before .before in
+    let s = k .before .before in
     let a = s .args in
-    let f = c .before .before .before .before .before .find in
-    breaks-found (layoutOf (a .t)) (a .id) (c .before .before .before .before .before .before .if1 .left)
-    (fileOf (entryAt (a .t) (f .result)))
-    (looked-found (a .t) (s .pre) (a .id) (f .result) (f .ensures) (c .before .before .before .if2 .left))
+    let x = looked-first (a .t) (s .pre) (a .id) (k .look-up .result) (k .look-up .ensures) (f .1) in
+    breaks-found (layoutOf (a .t)) (a .id) (k .before .if1 .left) (fileOf (entryAt (a .t) (f .0 .0)))
+    (looked-found (a .t) (s .pre) (a .id) (f .0 .0) x)
     (c .breaks-of .result) (c .breaks-of .ensures)
 
 pub breaks-in-spec : {M : Type 1} → statement M
 breaks-in-spec =
     tie.close
-    (tie.spec returns find-requires returns-2 mul-e array-copy-out-e breaks-of-requires returns-3)
+    (tie.spec
+    returns
+    look-up-requires
+    enum-known-file
+    enum-told
+    returns-2
+    mul-e
+    array-copy-out-e
+    breaks-of-requires
+    returns-3)

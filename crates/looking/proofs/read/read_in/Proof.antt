@@ -4,7 +4,8 @@ use native.Mathlib.Omega.{arith}
 use borrow.Author.Needs.{needs}
 use Rattle.table.specs.Files.{entryAt}
 use Rattle.table.specs.Tables.{fileOf}
-use Rattle.looking.proofs.LookedUp.{looked-fits, looked-found, looked-low, looked-missing}
+use Rattle.looking.proofs.LookedUp.{looked-first, looked-fits, looked-found, looked-low, looked-missing}
+use Rattle.looking.proofs.LookedUp.{opened-rises}
 use Rattle.looking.proofs.ReadJudged.{read-answered, read-broken, read-empty, read-missing, read-past}
 use Rattle.looking.proofs.ReadJudged.{read-whole, read-wrong, read-zero}
 use Rattle.looking.proofs.read.read_in.Statement.{statement}
@@ -26,53 +27,73 @@ returns-2 c =
     let a = c .before .before .before .before .before .args in
     read-zero (a .t) (a .id) (a .first) (a .out .now) (a .disk .now) (c .before .if1 .left) (c .if2 .taken)
 
-find-requires : tie.Need-find-requires
-find-requires c κs = search needs
+look-up-requires : tie.Need-look-up-requires
+look-up-requires c κs =
+    let s = c .before .before .before .before .before in
+    (s .pre .sized .files, opened-rises (s .args .t) (s .pre))
+
+enum-known-file : tie.Need-enum-known-file
+enum-known-file c = search needs
+
+enum-told : tie.Need-enum-told
+enum-told c = search needs
 
 returns-3 : tie.Need-returns-3
 returns-3 c =
     let k = c .before .before in
-    let f = k .find in
     let s = k .before .before .before .before .before .before in
     let a = s .args in
     read-missing (a .t) (a .id) (a .first) (a .out .now) (a .disk .now) (k .before .before .if1 .left)
     (k .before .if2 .left)
-    (looked-missing (a .t) (s .pre) (a .id) (f .result) (f .ensures) (c .if3 .taken))
+    (looked-missing (a .t) (s .pre) (a .id) (k .look-up .result) (k .look-up .ensures) (c .enum-told .given .1))
 
 returns-4 : tie.Need-returns-4
 returns-4 c =
-    let k = c .before .before .before in
-    let f = k .find in
+    let f = c .before .before .file .given in
+    let k = c .before .before .before .before in
     let s = k .before .before .before .before .before .before in
     let a = s .args in
+    let x = looked-first (a .t) (s .pre) (a .id) (k .look-up .result) (k .look-up .ensures) (f .1) in
     read-empty (a .t) (a .id) (a .first) (a .out .now) (a .disk .now) (k .before .before .if1 .left)
-    (k .before .if2 .left) (fileOf (entryAt (a .t) (f .result)))
-    (looked-found (a .t) (s .pre) (a .id) (f .result) (f .ensures) (c .before .if3 .left)) (c .if4 .taken)
+    (k .before .if2 .left) (fileOf (entryAt (a .t) (f .0 .0)))
+    (looked-found (a .t) (s .pre) (a .id) (f .0 .0) x) (c .if3 .taken)
 
 returns-5 : tie.Need-returns-5
 returns-5 c =
-    let k = c .before .before .before .before in
-    let f = k .find in
+    let f = c .before .before .before .file .given in
+    let k = c .before .before .before .before .before in
     let s = k .before .before .before .before .before .before in
     let a = s .args in
+    let x = looked-first (a .t) (s .pre) (a .id) (k .look-up .result) (k .look-up .ensures) (f .1) in
     read-broken (a .t) (a .id) (a .first) (a .out .now) (a .disk .now) (k .before .before .if1 .left)
-    (k .before .if2 .left) (fileOf (entryAt (a .t) (f .result)))
-    (looked-found (a .t) (s .pre) (a .id) (f .result) (f .ensures) (c .before .before .if3 .left))
-    (c .before .if4 .left) (c .if5 .taken)
+    (k .before .if2 .left) (fileOf (entryAt (a .t) (f .0 .0)))
+    (looked-found (a .t) (s .pre) (a .id) (f .0 .0) x)
+    (c .before .if3 .left) (c .if4 .taken)
 
 mul-e : tie.Need-mul-e
-mul-e c = search needs
+mul-e c =
+    let f = c .before .before .before .before .file .given in
+    let k = c .before .before .before .before .before .before in
+    let s = k .before .before .before .before .before .before in
+    let x = looked-first (s .args .t) (s .pre) (s .args .id) (k .look-up .result) (k .look-up .ensures) (f .1) in
+    search (needs, x .within, s .pre .sized .files)
 
 array-copy-out-e : tie.Need-array-copy-out-e
-array-copy-out-e c = search needs
+array-copy-out-e c =
+    let f = c .before .before .before .before .file .given in
+    let k = c .before .before .before .before .before .before in
+    let s = k .before .before .before .before .before .before in
+    let x = looked-first (s .args .t) (s .pre) (s .args .id) (k .look-up .result) (k .look-up .ensures) (f .1) in
+    omega (arith, x .within, s .pre .sized .files)
 
 blocks-of-requires : tie.Need-blocks-of-requires
 blocks-of-requires c κs =
-    let k = c .before .before .before .before .before .before in
-    let f = k .find in
+    let f = c .before .before .before .before .before .file .given in
+    let k = c .before .before .before .before .before .before .before in
     let s = k .before .before .before .before .before .before in
     let a = s .args in
-    looked-low (a .t) (s .pre) (a .id) (f .result) (f .ensures) (c .before .before .before .before .if3 .left)
+    let x = looked-first (a .t) (s .pre) (a .id) (k .look-up .result) (k .look-up .ensures) (f .1) in
+    looked-low (a .t) (s .pre) (a .id) (f .0 .0) x
 
 cast-n : tie.Need-cast-n
 cast-n c = search needs
@@ -80,51 +101,54 @@ cast-n c = search needs
 returns-6 : tie.Need-returns-6
 returns-6 c =
     let b = c .before .before .before .before in
-    let k = b .before .before .before .before in
-    let f = k .find in
+    let f = b .before .before .before .file .given in
+    let k = b .before .before .before .before .before in
     let s = k .before .before .before .before .before .before in
     let a = s .args in
+    let x = looked-first (a .t) (s .pre) (a .id) (k .look-up .result) (k .look-up .ensures) (f .1) in
     read-past (a .t) (a .id) (a .first) (a .out .now) (a .disk .now) (k .before .before .if1 .left)
-    (k .before .if2 .left) (fileOf (entryAt (a .t) (f .result)))
-    (looked-found (a .t) (s .pre) (a .id) (f .result) (f .ensures) (b .before .before .if3 .left))
-    (b .before .if4 .left) (b .if5 .left)
-    (omega (arith, c .before .blocks-of .ensures .equal, c .if6 .taken))
+    (k .before .if2 .left) (fileOf (entryAt (a .t) (f .0 .0)))
+    (looked-found (a .t) (s .pre) (a .id) (f .0 .0) x)
+    (b .before .if3 .left) (b .if4 .left)
+    (omega (arith, c .before .blocks-of .ensures .equal, c .if5 .taken))
 
 returns-7 : tie.Need-returns-7
 returns-7 c =
     let b = c .before .before .before .before .before in
-    let k = b .before .before .before .before in
-    let f = k .find in
+    let f = b .before .before .before .file .given in
+    let k = b .before .before .before .before .before in
     let s = k .before .before .before .before .before .before in
     let a = s .args in
+    let x = looked-first (a .t) (s .pre) (a .id) (k .look-up .result) (k .look-up .ensures) (f .1) in
     read-past (a .t) (a .id) (a .first) (a .out .now) (a .disk .now) (k .before .before .if1 .left)
-    (k .before .if2 .left) (fileOf (entryAt (a .t) (f .result)))
-    (looked-found (a .t) (s .pre) (a .id) (f .result) (f .ensures) (b .before .before .if3 .left))
-    (b .before .if4 .left) (b .if5 .left)
-    (omega (arith, c .before .before .blocks-of .ensures .equal, c .before .if6 .left, c .if7 .taken))
+    (k .before .if2 .left) (fileOf (entryAt (a .t) (f .0 .0)))
+    (looked-found (a .t) (s .pre) (a .id) (f .0 .0) x)
+    (b .before .if3 .left) (b .if4 .left)
+    (omega (arith, c .before .before .blocks-of .ensures .equal, c .before .if5 .left, c .if6 .taken))
 
 read-pages-requires : tie.Need-read-pages-requires
 read-pages-requires c κs =
     let b = c .before .before .before .before .before .before in
-    let k = b .before .before .before .before in
-    let f = k .find in
+    let f = b .before .before .before .file .given in
+    let k = b .before .before .before .before .before in
     let s = k .before .before .before .before .before .before in
     let a = s .args in
+    let x = looked-first (a .t) (s .pre) (a .id) (k .look-up .result) (k .look-up .ensures) (f .1) in
     let n = c .before .before .before .blocks-of .ensures .equal in
     record {
       entry =
           rw (k .before .before .if1 .left)
-          (looked-fits (a .t) (s .pre) (a .id) (f .result) (f .ensures) (b .before .before .if3 .left));
+          (looked-fits (a .t) (s .pre) (a .id) (f .0 .0) x);
       whole =
           read-whole (a .t) (a .id) (a .first) (a .out .now) (a .disk .now) (k .before .before .if1 .left)
-          (k .before .if2 .left) (fileOf (entryAt (a .t) (f .result)))
-          (looked-found (a .t) (s .pre) (a .id) (f .result) (f .ensures) (b .before .before .if3 .left))
-          (b .before .if4 .left) (b .if5 .left);
-      pages = omega (arith, n, c .before .before .if6 .left, c .before .if7 .left);
+          (k .before .if2 .left) (fileOf (entryAt (a .t) (f .0 .0)))
+          (looked-found (a .t) (s .pre) (a .id) (f .0 .0) x)
+          (b .before .if3 .left) (b .if4 .left);
+      pages = omega (arith, n, c .before .before .if5 .left, c .before .if6 .left);
     }
 
-cast-t15 : tie.Need-cast-t15
-cast-t15 c = search needs
+cast-t17 : tie.Need-cast-t17
+cast-t17 c = search needs
 
 same-length : tie.Need-same-length
 same-length c = search needs
@@ -133,15 +157,16 @@ returns-8 : tie.Need-returns-8
 returns-8 c =
     let p = c .before .before .before .before in
     let b = p .before .before .before .before .before in
-    let k = b .before .before .before .before in
-    let f = k .find in
+    let f = b .before .before .before .file .given in
+    let k = b .before .before .before .before .before in
     let s = k .before .before .before .before .before .before in
     let a = s .args in
+    let x = looked-first (a .t) (s .pre) (a .id) (k .look-up .result) (k .look-up .ensures) (f .1) in
     let r = read-answered (a .t) (a .id) (a .first) (a .out .now) (a .disk .now) (k .before .before .if1 .left)
-    (k .before .if2 .left) (fileOf (entryAt (a .t) (f .result)))
-    (looked-found (a .t) (s .pre) (a .id) (f .result) (f .ensures) (b .before .before .if3 .left))
-    (b .before .if4 .left) (b .if5 .left)
-    (omega (arith, p .before .before .blocks-of .ensures .equal, p .before .if6 .left, p .if7 .left)) in
+    (k .before .if2 .left) (fileOf (entryAt (a .t) (f .0 .0)))
+    (looked-found (a .t) (s .pre) (a .id) (f .0 .0) x)
+    (b .before .if3 .left) (b .if4 .left)
+    (omega (arith, p .before .before .blocks-of .ensures .equal, p .before .if5 .left, p .if6 .left)) in
     (r .0, λ cat. c .before .before .read-pages .ensures ∙ r .1 cat)
 
 pub read-in-spec : {M : Type 1} → statement M
@@ -152,7 +177,9 @@ read-in-spec =
     mul-if1
     returns
     returns-2
-    find-requires
+    look-up-requires
+    enum-known-file
+    enum-told
     returns-3
     returns-4
     returns-5
@@ -163,6 +190,6 @@ read-in-spec =
     returns-6
     returns-7
     read-pages-requires
-    cast-t15
+    cast-t17
     same-length
     returns-8)

@@ -24,7 +24,12 @@ pub read-below : (i : ℕ) (l : List File) → idsRead i l ≡ idsBelow i l + in
 unfolding idsRead
 read-below i l = refl
 
--- an id below the one sought is one more below
+-- among no files no id is below the one sought
+pub below-nil : (i : ℕ) → idsBelow i [] ≡ 0
+unfolding idsBelow
+below-nil i = refl
+
+-- an id below it is one more below
 pub below-more : (i : ℕ) (f : File) (l : List File) → f .id < i → idsBelow i (f ∷ l) ≡ suc (idsBelow i l)
 unfolding idsBelow
 below-more i f l low = omega (arith, ap indicator (lt-ltb (f .id) i low))

@@ -1,5 +1,5 @@
--- Look-ups as rows of a table, written out by hand from document 02, W3: the files, the id sought, the file or none, and
--- the number of ids read. Definitions only.
+-- Look-ups as rows of a table, written out by hand from document 02, W3: the files, the id sought, the file or none,
+-- and the number of ids read. Definitions only.
 use mathlib.Core.List.{List, [], _∷_}
 use Prim.Native.Nat.{ℕ}
 use Rattle.section.specs.Sections.{section}

@@ -9,7 +9,8 @@ use lib.ListN.{getD, length, take}
 use borrow.Author.Tests.{eq-eqb, le-ltb, leb-false, leb-true, lt-ltb, ne-eqb}
 use Rattle.layout.proofs.Finding.{find-nil, find-past}
 use Rattle.layout.proofs.Lists.{each-imp}
-use Rattle.layout.proofs.LookingUp.{above-none-found, below-more, below-none, look-up-finds, look-up-reads, read-below}
+use Rattle.layout.proofs.LookingUp.{above-none-found, below-more, below-nil, below-none, look-up-finds}
+use Rattle.layout.proofs.LookingUp.{look-up-reads, read-below}
 use Rattle.layout.specs.Layout.{File, findFile, missing}
 use Rattle.layout.specs.Lists.{indicator, more, next, none}
 use Rattle.layout.specs.LookingUp.{ByRisingId, LookUp, idsBelow, idsRead, lookUp}
@@ -18,7 +19,7 @@ use Rattle.piece_lists.specs.Places.{firstPlace}
 use Rattle.table.proofs.FileLists.{noLowerId, place-map}
 use Rattle.table.proofs.Released.{file-at, find-at, length-files}
 use Rattle.table.specs.Files.{entryAt, hasId, noEntry}
-use Rattle.table.specs.LookUps.{FirstOf, LooksUp, foundAt, lookUpOf, noFile}
+use Rattle.table.specs.LookUps.{FirstOf, LooksUp, foundAt, foundFile, lookUpOf, noFile}
 use Rattle.table.specs.Tables.{fileOf, filesOf}
 use Rattle.table.specs.declared.FileAt.{FileAt}
 use Rattle.table.specs.declared.FileAt.the-variants as FileAt·
@@ -30,8 +31,8 @@ notBelow i f = leb i (f .id)
 
 -- as many ids are below as stand before the first that is not
 below-place : (i : ℕ) {l : List File} → ByRisingId l → idsBelow i l ≡ firstPlace (notBelow i) l
-unfolding firstPlace idsBelow
-below-place i none = refl
+unfolding firstPlace
+below-place i none = below-nil i
 below-place i (next {a = f} {l = l} p q) = go (leb i (f .id)) refl (below-place i q)
   where
     go : (t : Bool) → leb i (f .id) ≡ t → idsBelow i l ≡ firstPlace (notBelow i) l
@@ -98,12 +99,12 @@ none-looks t id n e r same =
     (record { result = e; place = λ i q. absurd (let z : _≡_ {A = ℕ} 0 1 = cc in omega arith) })
 
 -- the one that is given is the first
-found-looks : (t : Table) (id j n : ℕ) → lookUpOf t (record { file = FileAt·.Place j; read = n }) ≡ lookUp id (filesOf t)
-    → FirstOf t id j → LooksUp t id (record { file = FileAt·.Place j; read = n })
+found-looks : (t : Table) (id j n : ℕ) → lookUpOf t (foundFile j n) ≡ lookUp id (filesOf t) → FirstOf t id j
+    → LooksUp t id (foundFile j n)
 found-looks t id j n e x =
     record { result = e; place = λ i q. let same : j ≡ i = cc in subst (FirstOf t id) same x }
 
--- a look-up in a table that has come to place j: every id before it is below the one sought, and it is not
+-- a look-up in a table that has come to place j, before which every id is below the one sought, and which ends there
 module _ (t : Table) (id j : ℕ) (most : t .count ≤ length (t .files)) (rise : ByRisingId (filesOf t))
     (at : j ≡ firstPlace (noLowerId id) (take (t .count) (t .files))) where
   ends : j ≡ firstPlace (notBelow id) (filesOf t)
@@ -146,7 +147,7 @@ module _ (t : Table) (id j : ℕ) (most : t .count ≤ length (t .files)) (rise 
 
     -- at the one sought
     pub ends-found : id ≡ entryAt t j .id → (n : ℕ) → n ≡ j + 1
-        → LooksUp t id (record { file = FileAt·.Place j; read = n })
+        → LooksUp t id (foundFile j n)
     ends-found same n e =
         let at-first =
         ends

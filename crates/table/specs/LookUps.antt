@@ -24,6 +24,10 @@ lookUpOf t r = record { file = foundAt t (r .file); idsRead = r .read }
 abbrev pub noFile : ℕ → LookedUp
 noFile n = record { file = FileAt·.Missing; read = n }
 
+-- the file at place i, after n ids
+abbrev pub foundFile : ℕ → ℕ → LookedUp
+foundFile i n = record { file = FileAt·.Place i; read = n }
+
 -- place i is that of the first file of the id
 pub record FirstOf (t : Table) (id i : ℕ) : Type 0 where
   pub within : i < t .count

@@ -1,8 +1,8 @@
-// A layout as a value: its files in an array and its free pieces, a file looked up, added, released and moved, two sections merged.
-// No bytes.
+// A layout as a value: its files in an array and its free pieces, a file looked up, added, released and moved, two
+// sections merged. No bytes.
 //
-// A list is the first `count` items of an array, so each value stands for one list of the definitions: `Entry` for a file
-// with its pieces in page order, `Table` for a layout.
+// A list is the first `count` items of an array, so each value stands for one list of the definitions: `Entry` for a
+// file with its pieces in page order, `Table` for a layout.
 use free_pieces::Free;
 use piece_lists::Pieces;
 use section::Section;

@@ -20,8 +20,8 @@ fn none(read: usize) -> LookedUp
 }
 
 impl Table {
-    // The file of an id. Ids are read from the lowest up, to the one sought or the first larger one, and counted as they
-    // are read.
+    // The file of an id. Ids are read from the lowest up, to the one sought or the first larger one, and counted as
+    // they are read.
     pub fn look_up(self, id: u32) -> LookedUp
         requires { ⌜ self .count ≤ mostFiles ⌝ }
         requires { ⌜ ByRisingId (filesOf self) ⌝ }

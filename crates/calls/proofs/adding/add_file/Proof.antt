@@ -129,7 +129,8 @@ same-length c = search needs
 
 returns-6 : tie.Need-returns-6
 returns-6 c =
-    let a = c .before .before .before .before .before .before .before .before .before .before .before .before .before .before .before in
+    let b = c .before .before .before .before .before .before .before .before .before in
+    let a = b .before .before .before .before .before .before in
     let k = c .before .before .place-file in
     answer-add (a .args .t) (a .args .id) _ (a .args .content .now) (a .args .disk .now) _ (k .result)
     (place-file-requires (c .before .before .before) (a .κs)) (k .ensures)

@@ -1,5 +1,5 @@
--- `cases::look_ups::print_looked_up` looks up in a sound table, and reads the file at the place that it is given. Assumes
--- nothing.
+-- `cases::look_ups::print_looked_up` looks up in a sound table, and reads the file at the place that it is given.
+-- Assumes nothing.
 use native.Mathlib.Omega.{arith}
 use borrow.Author.Needs.{needs}
 use Rattle.looking.proofs.LookedUp.{looked-first, opened-rises}

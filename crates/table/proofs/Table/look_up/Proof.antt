@@ -1,4 +1,5 @@
--- `table::Table::look_up` meets its contract: every id passed is below the one sought, and was counted. Assumes nothing.
+-- `table::Table::look_up` meets its contract: every id passed is below the one sought, and was counted. Assumes
+-- nothing.
 use mathlib.Core.Path.{_∙_, _≡_, sym}
 use Prim.Native.Nat.{_+_, _-_, _<_, _≤_}
 use native.Mathlib.Omega.{arith}

@@ -11,8 +11,8 @@
  *
  * What a call assumes, which nothing checks:
  *
- *    - Each pointer points to as many bytes as the length after it says. With a length of 0 it is not used. Bytes need
- *      no alignment.
+ *    - Each pointer points to as many bytes as the length after it says, or as many numbers where it points to
+ *      uint16_t. With a length of 0 it is not used. Bytes need no alignment; numbers are aligned as uint16_t is.
  *    - The buffers of one call do not overlap, and nobody else changes them, or reads one that is not const, while the
  *      call lasts. Calls on other buffers may run at the same time.
  *    - There is stack enough: no call was measured to need more than 76,160 bytes, and `./test` fails if one needs
@@ -33,27 +33,30 @@ enum {
   EVDISK_CATALOGUE = 4096,            /* the bytes of the small catalogue, which is version 1 */
   EVDISK_MOST_BLOCKS = 4096,          /* the most blocks of a disk with the small catalogue */
   EVDISK_LARGE_CATALOGUE = 16384,     /* the bytes of the large catalogue, which is version 2 */
-  EVDISK_LARGE_MOST_BLOCKS = 1048576  /* the most blocks of a disk with the large catalogue */
+  EVDISK_LARGE_MOST_BLOCKS = 1048576, /* the most blocks of a disk with the large catalogue */
+  EVDISK_FITS_ALREADY = 256           /* what evdisk_which answers if nothing has to be removed */
 };
 
 /* The refusals. A call looks for those that are listed at it, in that order, which is that of the numbers but for one
  * thing: evdisk_replace looks for -12 and -13 before -11. */
 enum {
-  EVDISK_REFUSED_CATALOGUE_LENGTH = -1, /* the catalogue buffer is neither 4,096 nor 16,384 bytes long */
-  EVDISK_REFUSED_NO_DISK = -2,          /* format alone: the disk buffer is not 1 to 4,096 blocks of 512 bytes long, or
-                                         * 1 to 1,048,576 with the large catalogue */
-  EVDISK_REFUSED_NOT_SOUND = -3,        /* the catalogue is not sound, or its version does not suit its length */
-  EVDISK_REFUSED_DISK_LENGTH = -4,      /* the disk buffer is not as long as the catalogue says */
-  EVDISK_REFUSED_ID_ZERO = -5,          /* the id is 0 */
-  EVDISK_REFUSED_ID_MISSING = -6,       /* no file has this id */
-  EVDISK_REFUSED_ID_THERE = -7,         /* a file has this id already */
-  EVDISK_REFUSED_BUFFER_LENGTH = -8,    /* the content or output buffer is empty or no multiple of 512 bytes long */
-  EVDISK_REFUSED_PAST_END = -9,         /* the pages go past the end of the file */
-  EVDISK_REFUSED_FILES_FULL = -10,      /* there are 64 files already */
-  EVDISK_REFUSED_NO_SPACE = -11,        /* there are fewer free blocks than the content has; for evdisk_replace the
-                                         * blocks of the old file count as free */
-  EVDISK_REFUSED_LETTER_UNKNOWN = -12,  /* evdisk_replace alone: the content's quality letter is none of R, D, Q, M */
-  EVDISK_REFUSED_LETTER_NOT_ABOVE = -13 /* evdisk_replace alone: that letter does not rank above the stored one */
+  EVDISK_REFUSED_CATALOGUE_LENGTH = -1,  /* the catalogue buffer is neither 4,096 nor 16,384 bytes long */
+  EVDISK_REFUSED_NO_DISK = -2,           /* format alone: the disk buffer is not 1 to 4,096 blocks of 512 bytes long, or
+                                          * 1 to 1,048,576 with the large catalogue */
+  EVDISK_REFUSED_NOT_SOUND = -3,         /* the catalogue is not sound, or its version does not suit its length */
+  EVDISK_REFUSED_DISK_LENGTH = -4,       /* the disk buffer is not as long as the catalogue says */
+  EVDISK_REFUSED_ID_ZERO = -5,           /* the id is 0 */
+  EVDISK_REFUSED_ID_MISSING = -6,        /* no file has this id */
+  EVDISK_REFUSED_ID_THERE = -7,          /* a file has this id already */
+  EVDISK_REFUSED_BUFFER_LENGTH = -8,     /* the content or output buffer is empty or no multiple of 512 bytes long, or n
+                                          * is 0 (evdisk_which) */
+  EVDISK_REFUSED_PAST_END = -9,          /* the pages go past the end of the file */
+  EVDISK_REFUSED_FILES_FULL = -10,       /* there are 64 files already */
+  EVDISK_REFUSED_NO_SPACE = -11,         /* there are fewer free blocks than the content has; for evdisk_replace the
+                                          * blocks of the old file count as free */
+  EVDISK_REFUSED_LETTER_UNKNOWN = -12,   /* evdisk_replace alone: the content's quality letter is none of R, D, Q, M */
+  EVDISK_REFUSED_LETTER_NOT_ABOVE = -13, /* evdisk_replace alone: that letter does not rank above the stored one */
+  EVDISK_REFUSED_LIST_LENGTH = -14       /* evdisk_which alone: the list has not 64 places */
 };
 
 #ifdef __cplusplus
@@ -96,6 +99,13 @@ int64_t evdisk_free(const uint8_t *cat, size_t cat_length);
 
 /* Answers the number of blocks if the catalogue is sound and the disk is as long as it says. Refusals: -1, -3, -4. */
 int64_t evdisk_check(const uint8_t *cat, size_t cat_length, const uint8_t *disk, size_t disk_length);
+
+/* Writes to places, a list of 64 numbers, the ids of the files whose removal alone would let n blocks in: those whose
+ * blocks and the free ones together are at least n. They stand by the blocks that the removal would copy, fewest first,
+ * and for equal counts by lower id; zeros follow. Answers how many ids there are, which may be none, or
+ * EVDISK_FITS_ALREADY if n blocks are free, and then writes only zeros. places_length counts the places and not their
+ * bytes. Only the catalogue is read. Refusals: -1, -3, -8, -14. */
+int64_t evdisk_which(const uint8_t *cat, size_t cat_length, uint64_t n, uint16_t *places, size_t places_length);
 
 #ifdef __cplusplus
 }

@@ -6,6 +6,7 @@
 
 uint8_t cat[EVDISK_LARGE_CATALOGUE + 1], disk[(EVDISK_MOST_BLOCKS + 1) * EVDISK_BLOCK];
 uint8_t content[DISK], out[DISK];
+uint16_t places[EVDISK_MOST_FILES + 1];
 size_t cat_length, disk_length;
 int wrong;
 
@@ -52,4 +53,9 @@ int64_t free_blocks(void)
 int64_t check(void)
 {
   return evdisk_check(cat, cat_length, disk, disk_length);
+}
+
+int64_t which(uint64_t n)
+{
+  return evdisk_which(cat, cat_length, n, places, EVDISK_MOST_FILES);
 }

@@ -1,7 +1,7 @@
 /*
- * Cases 4 to 8 of the scope document, a removal that finds free buddies, replacements, and every refusal, with either
- * catalogue, by the C header alone. Ends with status 1 and says where, if a call gives back another number or other
- * bytes.
+ * Cases 4 to 8 of the scope document, a removal that finds free buddies, replacements, which removals let blocks in,
+ * and every refusal, with either catalogue, by the C header alone. Ends with status 1 and says where, if a call gives
+ * back another number or other bytes.
  */
 #include <string.h>
 
@@ -77,6 +77,7 @@ static void with_catalogue(size_t length, uint8_t version)
   case_7();
   refusals();
   replacements();
+  removals_that_help();
   expect("byte after the catalogue", cat[length], 255);
 }
 

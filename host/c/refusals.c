@@ -1,6 +1,6 @@
 /*
  * Every refusal by its number, of every call that gives it, and that a refused call changes no byte. Those that replace
- * alone gives, and its order, are in replacing.c.
+ * alone gives, and its order, are in replacing.c, and so are those of which in which.c.
  */
 #include <stdio.h>
 #include <string.h>
@@ -9,20 +9,23 @@
 
 /* The bytes before refused calls. */
 static uint8_t cat_before[sizeof cat], disk_before[sizeof disk], out_before[sizeof out];
+static uint16_t places_before[EVDISK_MOST_FILES + 1];
 
 void keep(void)
 {
   memset(out, 238, sizeof out);
+  memset(places, 238, sizeof places);
   memcpy(cat_before, cat, sizeof cat);
   memcpy(disk_before, disk, sizeof disk);
   memcpy(out_before, out, sizeof out);
+  memcpy(places_before, places, sizeof places);
 }
 
 void refuse(const char *what, int64_t got, int64_t want)
 {
   expect(what, got, want);
   if (memcmp(cat, cat_before, sizeof cat) || memcmp(disk, disk_before, sizeof disk)
-      || memcmp(out, out_before, sizeof out)) {
+      || memcmp(out, out_before, sizeof out) || memcmp(places, places_before, sizeof places)) {
     printf("%s with %zu bytes of catalogue: a byte was changed\n", what, cat_length);
     wrong = 1;
   }
@@ -44,6 +47,7 @@ static void refuse_all(const char *what, int64_t want)
   refuse_with_disk(what, want);
   refuse(what, breaks(9), want);
   refuse(what, free_blocks(), want);
+  refuse(what, which(14), want);
 }
 
 /* By the lengths of catalogue and disk. */
@@ -120,8 +124,8 @@ static void names(void)
     EVDISK_REFUSED_CATALOGUE_LENGTH, EVDISK_REFUSED_NO_DISK, EVDISK_REFUSED_NOT_SOUND, EVDISK_REFUSED_DISK_LENGTH,
     EVDISK_REFUSED_ID_ZERO, EVDISK_REFUSED_ID_MISSING, EVDISK_REFUSED_ID_THERE, EVDISK_REFUSED_BUFFER_LENGTH,
     EVDISK_REFUSED_PAST_END, EVDISK_REFUSED_FILES_FULL, EVDISK_REFUSED_NO_SPACE, EVDISK_REFUSED_LETTER_UNKNOWN,
-    EVDISK_REFUSED_LETTER_NOT_ABOVE};
-  for (int i = 0; i < 13; i++)
+    EVDISK_REFUSED_LETTER_NOT_ABOVE, EVDISK_REFUSED_LIST_LENGTH};
+  for (int i = 0; i < 14; i++)
     expect("name of a refusal", named[i], -1 - i);
 }
 

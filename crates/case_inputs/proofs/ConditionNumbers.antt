@@ -17,5 +17,6 @@ condition-numbers Call·.Remove i p b cat d l e = rw e
 condition-numbers Call·.Replace i p b cat d l e = rw e
 condition-numbers Call·.Read i p b cat d l e = rw e
 condition-numbers Call·.Breaks i p b cat d l e = rw e
+condition-numbers Call·.Which i p b cat d l e = rw e
 condition-numbers Call·.Free i p b cat d l e = rw e
 condition-numbers Call·.Check i p b cat d l e = rw e

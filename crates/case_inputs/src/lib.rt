@@ -12,6 +12,7 @@ pub enum Call {
     Replace,
     Read,
     Breaks,
+    Which,
     Free,
     Check,
 }
@@ -32,6 +33,7 @@ pub fn checks(call: Call) -> [u32; Call::MOST_CHECKS]
         Call::Replace => [1, 3, 4, 5, 6, 8, 12, 13, 11],
         Call::Read => [1, 3, 4, 5, 6, 8, 9, 0, 0],
         Call::Breaks => [1, 3, 5, 6, 0, 0, 0, 0, 0],
+        Call::Which => [1, 3, 8, 14, 0, 0, 0, 0, 0],
         Call::Free => [1, 3, 0, 0, 0, 0, 0, 0, 0],
         Call::Check => [1, 3, 4, 0, 0, 0, 0, 0, 0],
     }
@@ -43,6 +45,7 @@ pub fn number_of(a: Answer) -> u32
 {
     match a {
         Answer::Number(n) => 0,
+        Answer::FitsAlready => 0,
         Answer::CatalogueLength => 1,
         Answer::NoDisk => 2,
         Answer::NotSound => 3,
@@ -56,5 +59,6 @@ pub fn number_of(a: Answer) -> u32
         Answer::NoSpace => 11,
         Answer::LetterUnknown => 12,
         Answer::LetterNotAbove => 13,
+        Answer::ListLength => 14,
     }
 }

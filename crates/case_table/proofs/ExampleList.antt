@@ -9,7 +9,7 @@ use Rattle.case_table.specs.BesideBook.{tenCalls}
 use Rattle.case_table.specs.CaseRows.{blocksOfBytes, filledBlocks, untouched}
 use Rattle.case_table.specs.CaseRun.{performed}
 use Rattle.manager.specs.Book.{answers, anyNumber, bytesOf, contentPages, countFrom, inBook, lineWith, pagesInLines}
-use Rattle.manager.specs.Book.{bookRank, countedFrom, letterOn}
+use Rattle.manager.specs.BookLetters.{bookRank, countedFrom, letterOn}
 use Rattle.manager.specs.Book.{refuses, strikeLine, writeLine}
 use Rattle.manager.specs.Call.{replace}
 use Rattle.manager.specs.Conditions.{answered, refused}

@@ -11,7 +11,7 @@ use Rattle.case_table.specs.RankRows.{replacedWith, smallOne}
 use Rattle.case_table.specs.RefusalTable.{Catalogues, filledUp, large, small}
 use Rattle.case_table.specs.ReplaceRows.{largeRows, replaceRows}
 use Rattle.manager.specs.Book.{contentPages, countFrom, lineWith, pagesInLines, strikeLine, writeLine}
-use Rattle.manager.specs.Book.{bookRank, countedFrom, letterOn}
+use Rattle.manager.specs.BookLetters.{bookRank, countedFrom, letterOn}
 use Rattle.manager.specs.Call.{replace}
 use Rattle.manager.specs.Conditions.{answered, outcome}
 

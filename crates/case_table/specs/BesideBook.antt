@@ -1,5 +1,5 @@
--- Lists of calls made by the manager and by the plain book side by side, from a format with the small catalogue and a
--- fresh book: the replies of both, and the whole output of both; and a book of 64 lines. Definitions only.
+-- Lists of calls made by the manager and by the plain book side by side, from a format and a fresh book: the replies
+-- of both, and the whole output of both; and a book of 64 lines. Definitions only.
 use mathlib.Core.List.{List, [], _∷_}
 use Prim.Native.Nat.{suc, zero, ℕ}
 use lib.ListN.{replicate}
@@ -29,11 +29,15 @@ besideBook (c ∷ l) cat d b =
     let y : BookStep = inBook c b in
     bothOf x y ∷ besideBook l (x .catalogue) (x .disk) (y .book)
 
--- from the catalogue and the disk that format leaves, and a fresh book
-abbrev pub fromFormat : ℕ → List Call → List Both
-fromFormat c calls =
-    let x : Outcome = formatOutcome (replicate 4096 255) (untouched c) in
+-- from the catalogue of so many bytes and the disk of c blocks that format leaves, and a fresh book
+abbrev pub fromFormatIn : ℕ → ℕ → List Call → List Both
+fromFormatIn bytes c calls =
+    let x : Outcome = formatOutcome (replicate bytes 255) (untouched c) in
     besideBook calls (x .catalogue) (x .disk) (freshBook c)
+
+-- with the small catalogue
+abbrev pub fromFormat : ℕ → List Call → List Both
+fromFormat c calls = fromFormatIn 4096 c calls
 
 -- the calls
 abbrev pub tenCalls : List Call

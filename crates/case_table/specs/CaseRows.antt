@@ -42,6 +42,10 @@ unwritten n = replicate n 255
 abbrev pub untouched : ℕ → List ℕ
 untouched n = unwritten (512 * n)
 
+-- a list of n two-byte numbers that nobody wrote to yet
+abbrev pub otherNumbers : ℕ → List ℕ
+otherNumbers n = replicate n 65535
+
 -- ---- rows
 
 -- a call's reply, and its whole output

@@ -15,6 +15,7 @@ use Rattle.catalogue.specs.Reading.{unsound}
 use Rattle.catalogue.specs.Version.{versionFor, versionOf}
 use Rattle.catalogue.specs.declared.Version.{Version}
 use Rattle.layout.specs.Adding.{allocate, takeFirst, takePiece}
+use Rattle.layout.specs.Helping.{candidatesOf, helpingIds}
 use Rattle.layout.specs.Layout.{File, Found, Layout, blockRun, blocksOf, breaksOf, filePieces, findFile, found}
 use Rattle.layout.specs.Layout.{freshLayout, inRange, missing, piecesFrom}
 use Rattle.layout.specs.Lists.{insertBy, sortBy}
@@ -22,11 +23,11 @@ use Rattle.layout.specs.Removing.{Copy, buddyPair, copiesFrom, copiesOf, copyRu
 use Rattle.layout.specs.Removing.{merge, mergeAll, mergePair, nextMerge, release, removal, withoutFile}
 use Rattle.case_table.specs.CaseRows.{FileSeen, Row, Seen, Start, filledBlocks, freshDisk, givenLayout}
 use Rattle.case_table.specs.CaseRows.{untouched}
-use Rattle.manager.specs.Call.{Call, add, breaks, check, free, read, remove, replace}
-use Rattle.manager.specs.Conditions.{Outcome, Reply, answered, firstRefusal, refused}
+use Rattle.manager.specs.Call.{Call, add, breaks, check, free, read, remove, replace, which}
+use Rattle.manager.specs.Conditions.{Outcome, Reply, answered, firstRefusal, fitsAlready, refused}
 use Rattle.manager.specs.Disk.{cutPages, joinPages, pagesOn, runCopies, writePages}
 use Rattle.manager.specs.Outcomes.{addIn, breaksIn, breaksReply, checkIn, formatIn, formatOutcome, freeIn, perform}
-use Rattle.manager.specs.Outcomes.{readIn, removeIn, replaceOutcome}
+use Rattle.manager.specs.Outcomes.{readIn, removeIn, replaceOutcome, whichIn}
 use Rattle.quality.specs.Letters.{firstLetter, rankOf}
 use Rattle.section.specs.Limits.{heightCount}
 use Rattle.section.specs.Heights.{heightOf}
@@ -84,7 +85,7 @@ unfolding onesIn ones buddyFirst parentFirst isAligned isOnDisk sharesBlock isIn
     release removal bigEndian pairBytes pairsBytes entryBytes entriesBytes headerBytes usedBytes encode every pairwise
     isSound readFrom readPair readPairs fileRead readEntry readEntries readHeader readLayout judged readCatalogue
     pagesOn cutPages joinPages writePages runCopies firstRefusal formatIn addIn removeIn readIn breaksIn freeIn
-    checkIn replaceOutcome versionFor heightOf firstLetter rankOf
+    checkIn replaceOutcome versionFor heightOf firstLetter rankOf candidatesOf helpingIds whichIn
 performed c cat d = perform c cat d
 
 -- the buffers, and what was seen so far
@@ -104,10 +105,11 @@ abbrev pub copiesOnReading : ℕ → Reading → List Copy
 copiesOnReading i (sound l) = copiesOfFound l (findFile i (l .files))
 copiesOnReading i unsound = []
 
--- the copies of a removal that gets this reply
+-- the copies of a removal that gets this reply; none says that something fits already
 abbrev pub copiesMade : Reply → List Copy → List Copy
 copiesMade (answered n) cs = cs
 copiesMade (refused n) cs = []
+copiesMade fitsAlready cs = []
 
 -- the copies of the last removal, a replacement's too, after one more call and its reply
 abbrev pub lastCopies : Call → Reply → List ℕ → List Copy → List Copy
@@ -116,6 +118,7 @@ lastCopies (remove i) r cat cs = copiesMade r (copiesOnReading i (readCatalogue 
 lastCopies (replace i bs) r cat cs = copiesMade r (copiesOnReading i (readCatalogue (versionOf cat) cat))
 lastCopies (read i p o) r cat cs = cs
 lastCopies (breaks i) r cat cs = cs
+lastCopies (which n o) r cat cs = cs
 lastCopies free r cat cs = cs
 lastCopies check r cat cs = cs
 

@@ -1,5 +1,6 @@
 -- Definitions only: the worked cases of document 01 as one table, written out by hand, and how a row is computed;
--- refusals by literal lengths as another, and replacements as a third; and lists of calls beside the book.
+-- refusals by literal lengths as another, replacements as a third, and which removal would let blocks in as a fourth;
+-- and lists of calls beside the book.
 pub mod CaseRows
 pub mod CaseParts
 pub mod CaseBytes
@@ -13,3 +14,4 @@ pub mod BesideBook
 pub mod RefusalRows
 pub mod RefusalTable
 pub mod RankRows
+pub mod WhichRows

@@ -6,9 +6,9 @@ use Prim.Native.Nat.{ℕ}
 use lib.ListN.{replicate}
 use Rattle.case_table.specs.CaseRun.{performed}
 use Rattle.case_table.specs.RefusalTable.{filledUp}
-use Rattle.manager.specs.Book.{Book, BookReply, BookStep, anyNumber, inBook, refuses}
+use Rattle.manager.specs.Book.{Book, BookReply, BookStep, anyNumber, fits, inBook, refuses}
 use Rattle.manager.specs.Call.{replace}
-use Rattle.manager.specs.Conditions.{Outcome, Reply, answered, outcome, refused}
+use Rattle.manager.specs.Conditions.{Outcome, Reply, answered, fitsAlready, outcome, refused}
 
 -- the stored block, the new one, and the reply
 pub record RankRow : Type 0 where
@@ -94,6 +94,7 @@ replaced cat r = performed (replace 1 (r .new)) cat (r .stored)
 abbrev blockAfter : RankRow → Reply → List ℕ
 blockAfter r (answered n) = r .new
 blockAfter r (refused n) = r .stored
+blockAfter r fitsAlready = r .stored
 
 -- what is expected: the same catalogue, and the new block if the replacement is answered
 abbrev pub replacedWith : List ℕ → RankRow → Outcome
@@ -112,6 +113,7 @@ replacedInBook r = inBook (replace 1 (r .new)) (bookOfOne (r .stored))
 abbrev replyInBook : Reply → BookReply
 replyInBook (answered n) = anyNumber
 replyInBook (refused n) = refuses n
+replyInBook fitsAlready = fits
 
 abbrev pub bookWith : RankRow → BookStep
 bookWith r = record { reply = replyInBook (r .reply); book = bookOfOne (blockAfter r (r .reply)); output = [] }

@@ -3,11 +3,11 @@
 use mathlib.Core.List.{List, [], map}
 use Prim.Native.Nat.{ℕ}
 use Rattle.case_table.specs.CaseRun.{performed}
-use Rattle.manager.specs.Call.{Call, add, breaks, check, free, read, remove, replace}
+use Rattle.manager.specs.Call.{Call, add, breaks, check, free, read, remove, replace, which}
 use Rattle.manager.specs.Conditions.{Outcome, outcome, refused}
 use Rattle.manager.specs.Outcomes.{formatOutcome}
 
--- the eight calls
+-- the nine calls
 pub data AnyCall : Type 0 where
   format : AnyCall
   listed : Call → AnyCall
@@ -31,6 +31,7 @@ outputLent (listed (remove i)) = []
 outputLent (listed (replace i bs)) = []
 outputLent (listed (read i p o)) = o
 outputLent (listed (breaks i)) = []
+outputLent (listed (which n o)) = o
 outputLent (listed free) = []
 outputLent (listed check) = []
 

@@ -5,9 +5,9 @@ use mathlib.Core.List.{List, [], _++_, _∷_, map}
 use Prim.Native.Nat.{_-_, suc, zero, ℕ}
 use lib.ListN.{length, replicate}
 use Rattle.case_table.specs.CaseBytes.{usedInLargeSeven, usedInSeven}
-use Rattle.case_table.specs.CaseRows.{filledBlocks, unwritten}
+use Rattle.case_table.specs.CaseRows.{filledBlocks, otherNumbers, unwritten}
 use Rattle.case_table.specs.RefusalRows.{Refusal, RefusalRow, formatGives, gives}
-use Rattle.manager.specs.Call.{Call, add, breaks, check, free, read, remove, replace}
+use Rattle.manager.specs.Call.{Call, add, breaks, check, free, read, remove, replace, which}
 
 -- a catalogue and a disk, and the calls that are refused on them
 abbrev row : List ℕ → List ℕ → List Refusal → RefusalRow
@@ -37,7 +37,7 @@ diskCalls = add 7 (unwritten 512) ∷ remove 2 ∷ replace 2 (replicate 512 82) 
 
 -- and those that get the catalogue alone: a call of each kind
 abbrev plainCalls : List Call
-plainCalls = breaks 2 ∷ free ∷ diskCalls
+plainCalls = breaks 2 ∷ which 14 (otherNumbers 64) ∷ free ∷ diskCalls
 
 -- calls that get the disk, and that are refused with 5 to 12 on the right buffers
 abbrev wrongCalls : List Call
@@ -45,6 +45,11 @@ wrongCalls =
     add 0 [] ∷ add 2 [] ∷ add 3 (unwritten 511) ∷ add 3 (unwritten 7168) ∷ remove 0 ∷ remove 3 ∷ read 0 0 []
     ∷ read 3 0 [] ∷ read 2 0 (unwritten 513) ∷ read 2 2 (unwritten 512) ∷ replace 0 [] ∷ replace 3 []
     ∷ replace 2 (replicate 513 82) ∷ replace 2 (unwritten 512) ∷ replace 2 (replicate 8192 82) ∷ []
+
+-- these; those that get the catalogue alone and are refused with 5, 8 and 14 on the right one; free and check
+abbrev mixedCalls : List Call
+mixedCalls =
+    wrongCalls ++ breaks 0 ∷ which 0 [] ∷ which 0 (otherNumbers 64) ∷ which 14 (otherNumbers 63) ∷ free ∷ check ∷ []
 
 -- all of these give the same number
 abbrev all : ℕ → List Call → List Refusal
@@ -83,10 +88,11 @@ argumentRow c =
     ++ all 7 (add 2 (unwritten 512) ∷ [])
     ++ all 8
     (add 3 (unwritten 511) ∷ add 3 (unwritten 513) ∷ replace 2 (replicate 511 82) ∷ replace 2 (replicate 513 82)
-    ∷ read 2 0 (unwritten 511) ∷ read 2 0 (unwritten 513) ∷ [])
+    ∷ read 2 0 (unwritten 511) ∷ read 2 0 (unwritten 513) ∷ which 0 (otherNumbers 64) ∷ [])
     ++ all 9 (read 2 2 (unwritten 512) ∷ read 2 1 (unwritten 1024) ∷ read 9 0 (unwritten 1024) ∷ [])
     ++ all 11 (add 3 (unwritten 7168) ∷ replace 2 (replicate 8192 82) ∷ [])
-    ++ all 12 (replace 2 (unwritten 512) ∷ []))
+    ++ all 12 (replace 2 (unwritten 512) ∷ [])
+    ++ all 14 (map (λ k. which 14 (otherNumbers k)) (0 ∷ 1 ∷ 63 ∷ 65 ∷ 128 ∷ [])))
 
 -- letters that do not rank above M
 abbrev letterRow : Catalogues → RefusalRow
@@ -115,7 +121,7 @@ refusalTable c =
 -- further disks, and where more than one refusal applies the lowest, or for a replacement the first in its order
 abbrev pub orderTable : Catalogues → List RefusalRow
 orderTable c =
-    row (oneByteMore (c .bytes) (c .seven)) (unwritten 8191) (all 3 (wrongCalls ++ breaks 0 ∷ check ∷ []))
+    row (oneByteMore (c .bytes) (c .seven)) (unwritten 8191) (all 3 mixedCalls)
     ∷ row (filledUp (c .bytes) (c .seven)) (unwritten 8193) (all 4 wrongCalls)
     ∷ row (filledUp (c .bytes) (c .seven)) sixteen
     (all 5
@@ -127,7 +133,7 @@ orderTable c =
     ++ all 7 (add 2 [] ∷ add 9 (unwritten 513) ∷ add 2 (unwritten 7168) ∷ [])
     ++ all 8
     (add 3 [] ∷ add 3 (unwritten 7169) ∷ replace 2 [] ∷ replace 2 (unwritten 513) ∷ replace 2 (replicate 8193 82)
-    ∷ read 2 9 [] ∷ read 2 9 (unwritten 513) ∷ [])
+    ∷ read 2 9 [] ∷ read 2 9 (unwritten 513) ∷ which 0 [] ∷ which 0 (otherNumbers 63) ∷ [])
     ++ all 12 (replace 2 (unwritten 8192) ∷ []))
     ∷ row (filledUp (c .bytes) (c .seven)) sixteenWithM
     (all 8 (replace 2 (replicate 513 82) ∷ [])
@@ -177,8 +183,7 @@ abbrev pub lengthTable : List RefusalRow
 lengthTable =
     map (λ n. row (filledUp n usedInSeven) sixteen (formatGives 1 ∷ all 1 plainCalls)) (4095 ∷ 4097 ∷ [])
     ++ map (λ n. row (filledUp n usedInLargeSeven) sixteen (formatGives 1 ∷ all 1 plainCalls)) (16383 ∷ 16385 ∷ [])
-    ++ map
-    (λ n. row (unwritten n) (unwritten 8191) (formatGives 1 ∷ all 1 (wrongCalls ++ breaks 0 ∷ free ∷ check ∷ [])))
+    ++ map (λ n. row (unwritten n) (unwritten 8191) (formatGives 1 ∷ all 1 mixedCalls))
     (0 ∷ 1 ∷ 4095 ∷ 4097 ∷ 16383 ∷ 16385 ∷ [])
 
 -- ---- versions that do not suit the buffer

@@ -5,22 +5,30 @@ use crate::stores::Size;
 use case_inputs::Call;
 use looking::Answer;
 
-// What the call gives back, with the id and the first page, and with the buffer as content or output.
-fn ask(
-    call: Call,
-    cat: &mut [u8],
-    disk: &mut [u8],
-    buffer: &mut [u8],
-    id: u16,
-    first: u64,
-) -> Answer {
+// What `which` gives back where the refusals x and y apply: for 14 by itself the list has one place too few, and for
+// 14 with another one too many.
+fn ask_which(cat: &[u8], x: u32, y: u32) -> Answer {
+    let n = lent::blocks(x, y);
+    if !lent::is_one_of(14, x, y) {
+        event_disk::which(cat, n, &mut [65535; 64])
+    } else if x == y {
+        event_disk::which(cat, n, &mut [65535; 63])
+    } else {
+        event_disk::which(cat, n, &mut [65535; 65])
+    }
+}
+
+// What the call gives back where the refusals x and y apply, with the buffer as content or output.
+fn ask(call: Call, cat: &mut [u8], disk: &mut [u8], buffer: &mut [u8], x: u32, y: u32) -> Answer {
+    let id = lent::id(call, x, y);
     match call {
         Call::Format => event_disk::format(cat, disk),
         Call::Add => event_disk::add(cat, disk, id, buffer),
         Call::Remove => event_disk::remove(cat, disk, id),
         Call::Replace => event_disk::replace(cat, disk, id, buffer),
-        Call::Read => event_disk::read(cat, disk, id, first, buffer),
+        Call::Read => event_disk::read(cat, disk, id, lent::first_page(x, y), buffer),
         Call::Breaks => event_disk::breaks(cat, id),
+        Call::Which => ask_which(cat, x, y),
         Call::Free => event_disk::free(cat),
         Call::Check => event_disk::check(cat, disk),
     }
@@ -55,16 +63,7 @@ fn lend(call: Call, cat: &mut [u8], bytes: isize, disk: &mut [u8], x: u32, y: u3
     let c = io::count(bytes, cat);
     let d = io::count(lent::disk_length(x, y), disk);
     let b = io::count(lent::buffer_length(x, y), &buffer);
-    let id = lent::id(call, x, y);
-    let first = lent::first_page(x, y);
-    ask(
-        call,
-        &mut cat[..c],
-        &mut disk[..d],
-        &mut buffer[..b],
-        id,
-        first,
-    )
+    ask(call, &mut cat[..c], &mut disk[..d], &mut buffer[..b], x, y)
 }
 
 // What the call gives back in a store in which the refusals x and y apply, with so many bytes of a catalogue that has

@@ -57,6 +57,11 @@ pub(crate) fn first_page(x: u32, y: u32) -> u64 {
     if is_one_of(9, x, y) { 1 } else { 0 }
 }
 
+// The blocks to be let in: one more than are free, or none.
+pub(crate) fn blocks(x: u32, y: u32) -> u64 {
+    if is_one_of(8, x, y) { 0 } else { 64 }
+}
+
 // The quality letter of the content: outside the four where it is to be unknown.
 pub(crate) fn letter(x: u32, y: u32) -> u8 {
     if is_one_of(12, x, y) { b'm' } else { b'R' }

@@ -1,5 +1,6 @@
-// The cases that are executed: the limits, look-ups, every refusal of every call, and every call in buffers around the
-// lengths of the catalogues; with the small catalogue and with the large one, whose lines are marked.
+// The cases that are executed: the limits, look-ups, which removal would let blocks in, every refusal of every call,
+// and every call in buffers around the lengths of the catalogues; with the small catalogue and with the large one,
+// whose lines are marked.
 mod asking;
 mod buffers;
 mod lent;
@@ -9,6 +10,7 @@ mod printing;
 mod refusals;
 mod replacing;
 mod stores;
+mod which;
 
 use case_inputs::Call;
 use section::Section;
@@ -23,6 +25,7 @@ fn print_limits(cat: &mut [u8], size: Size) {
     replacing::print_last_file(cat, size);
     replacing::print_result(cat, size);
     look_ups::print_look_ups(cat, size);
+    which::print_lists(cat, size);
 }
 
 // Writes the lines of the refusals of all calls.
@@ -33,6 +36,7 @@ fn print_refusals(size: Size) {
     refusals::print_rows(b"replace ", Call::Replace, size);
     refusals::print_rows(b"read ", Call::Read, size);
     refusals::print_rows(b"breaks ", Call::Breaks, size);
+    refusals::print_rows(b"which ", Call::Which, size);
     refusals::print_rows(b"free ", Call::Free, size);
     refusals::print_rows(b"check ", Call::Check, size);
 }
@@ -45,6 +49,7 @@ fn print_buffers(size: Size) {
     buffers::print_buffers(b"replace ", Call::Replace, size);
     buffers::print_buffers(b"read ", Call::Read, size);
     buffers::print_buffers(b"breaks ", Call::Breaks, size);
+    buffers::print_buffers(b"which ", Call::Which, size);
     buffers::print_buffers(b"free ", Call::Free, size);
     buffers::print_buffers(b"check ", Call::Check, size);
 }

@@ -22,14 +22,21 @@ pub(crate) fn print_mark(size: Size, words: &[u8]) {
     }
 }
 
-// Writes what a call gave back, in a line that begins with the case's words.
-pub(crate) fn print_case(words: &[u8], a: Answer) {
-    print(words);
+// Writes what a call gave back.
+pub(crate) fn print_answer(a: Answer) {
     if let Answer::Number(n) = a {
         print_number(b"answered ", n);
+    } else if let Answer::FitsAlready = a {
+        print(b"fits already");
     } else {
         print_number(b"refused ", number_of(a));
     }
+}
+
+// Writes it in a line that begins with the case's words.
+pub(crate) fn print_case(words: &[u8], a: Answer) {
+    print(words);
+    print_answer(a);
     print(b"\n");
 }
 

@@ -11,7 +11,8 @@ use Rattle.layout.specs.Carries.{carries}
 use Rattle.layout.specs.Layout.{File, Layout, breaksOf, fileBlocks, findFile, found, freeBlocks}
 use Rattle.manager.specs.Book.{Book, inBook, refuses}
 use Rattle.manager.specs.Call.{Call, breaks, outputOf, remove, replace}
-use Rattle.manager.specs.Claimed.{CopiesClaimed}
+use Rattle.manager.proofs.ClaimWords.{output-but-which}
+use Rattle.manager.specs.Claimed.{Asking, CopiesClaimed}
 use Rattle.manager.specs.Outcomes.{formatOutcome, perform}
 use Rattle.manager.specs.Table.{CatalogueOf}
 use Rattle.manager.specs.WholeList.{Afterwards}
@@ -22,15 +23,15 @@ use Rattle.evdisk.specs.ExportedList.{Returned}
 
 -- ---- a call
 
--- refusals are the book's, the whole output is, and a call that gives back a number below 0 leaves catalogue, disk and
--- book
+-- refusals are the book's, the whole output is but for `which`, and a call that gives back a number below 0 leaves
+-- catalogue, disk and book
 pub code-claims : (c : Call) (cat d : List ℕ) (b : Book) (r : Returned) → CodeAgrees c cat d b r
     → ((n : ℕ) → 1 ≤ n → (r .code ≡ negℤ (pos n)) ↔ (inBook c b .reply ≡ refuses n))
-    × (r .output ≡ inBook c b .output)
+    × ((Asking c → ⊥) → r .output ≡ inBook c b .output)
     × (((n : ℕ) → r .code ≡ pos n → ⊥) → (r .catalogue ≡ cat) × (r .disk ≡ d) × (inBook c b .book ≡ b))
 code-claims c cat d b r a = (
   code-refuses-exactly (inBook c b .reply) (r .code) (a .code),
-  a .output,
+  λ other. output-but-which c b (r .output) (a .output) other,
   λ below. (a .catalogue-kept (kept below), a .disk-kept (kept below), a .book-kept (kept below)),
 )
   where

@@ -10,16 +10,21 @@ use lib.ListN.{length}
 use Rattle.catalogue.specs.Version.{here, later, version1, version2}
 use Rattle.catalogue.specs.declared.Version.{Version}
 use Rattle.evdisk.specs.Called.{Claimed, calledOn}
-use Rattle.manager.specs.Book.{BookReply, answers, anyNumber, refuses}
-use Rattle.manager.specs.Call.{Call, ListedCall, add, breaks, check, free, read, remove, replace}
+use Rattle.manager.specs.Book.{BookReply, answers, anyNumber, fits, inAnyOrder, refuses}
+use Rattle.manager.specs.Call.{Call, ListedCall, add, breaks, check, free, read, remove, replace, which}
 use Rattle.manager.specs.Claimed.{Changing}
 use Rattle.manager.specs.Outcomes.{perform}
 use Rattle.manager.specs.WholeList.{RightLengths}
 use Rattle.evdisk.proofs.CodesApart.{codes-apart, refusals-apart}
+use Rattle.evdisk.specs.Codes.{fitsNumber}
 use Rattle.evdisk.specs.ExportedList.{AltersBy, CodeOfBook, ExportedList}
 use Rattle.evdisk.specs.ExportedList.{Promised}
 
 -- ---- at each call
+
+-- a number of 0 or more is none below 0, and the book's reply no refusal
+answered-apart : {X : Type 0} (m n : ℕ) → 1 ≤ n → (r : ℤ) → r ≡ pos m → (X → ⊥) → (r ≡ negℤ (pos n)) ↔ X
+answered-apart m n one r e other = (λ p. absurd (codes-apart n m one (sym p ∙ e)), λ x. absurd (other x))
 
 -- minus n comes back exactly if the book refuses with n
 pub code-refuses-exactly : (s : BookReply) (r : ℤ) → CodeOfBook s r → (n : ℕ) → 1 ≤ n
@@ -28,14 +33,14 @@ code-refuses-exactly (refuses m) r (some, e) n one = (
   λ p. ap refuses (refusals-apart m n (sym e ∙ p)),
   λ p. e ∙ ap (λ z. negℤ (pos z)) (let z : m ≡ n = cc in z),
 )
-code-refuses-exactly (answers m) r e n one = (
-  λ p. absurd (codes-apart n m one (sym p ∙ e)),
-  λ p. absurd (let z : _≡_ {A = ℕ} 0 1 = cc in omega arith),
-)
-code-refuses-exactly anyNumber r (m, e) n one = (
-  λ p. absurd (codes-apart n m one (sym p ∙ e)),
-  λ p. absurd (let z : _≡_ {A = ℕ} 0 1 = cc in omega arith),
-)
+code-refuses-exactly (answers m) r e n one =
+    answered-apart m n one r e (λ p. let z : _≡_ {A = ℕ} 0 1 = cc in omega arith)
+code-refuses-exactly anyNumber r (m, e) n one =
+    answered-apart m n one r e (λ p. let z : _≡_ {A = ℕ} 0 1 = cc in omega arith)
+code-refuses-exactly (inAnyOrder m) r (few, e) n one =
+    answered-apart m n one r e (λ p. let z : _≡_ {A = ℕ} 0 1 = cc in omega arith)
+code-refuses-exactly fits r e n one =
+    answered-apart fitsNumber n one r e (λ p. let z : _≡_ {A = ℕ} 0 1 = cc in omega arith)
 
 -- and where the book answers n, n does
 pub code-answers-alike : (n : ℕ) (r : ℤ) → CodeOfBook (answers n) r → r ≡ pos n
@@ -48,6 +53,7 @@ code-alters-only (remove i) r a = (a, inr (inl (i, refl)))
 code-alters-only (replace i bs) r a = (a, inr (inr (i, bs, refl)))
 code-alters-only (read i p o) r a = absurd a
 code-alters-only (breaks i) r a = absurd a
+code-alters-only (which n o) r a = absurd a
 code-alters-only free r a = absurd a
 code-alters-only check r a = absurd a
 

@@ -3,6 +3,8 @@ pub mod Signed
 pub mod CodesApart
 mod Within
 mod Promising
+pub mod CodesOfBook
 pub mod ExportedList
 pub mod CodeWords
 pub mod CodeClaims
+pub mod CodeOfWhich

@@ -1,4 +1,5 @@
--- What an exported call gives back: the answered number, or minus the number of the refusal. Definitions only.
+-- What an exported call gives back: the answered number, 256 for "fits already", or minus the number of the refusal.
+-- Definitions only.
 use mathlib.Core.Path.{_≡_}
 use mathlib.Core.List.{List}
 use Prim.Native.Nat.{ℕ, _≤_}
@@ -8,12 +9,17 @@ use mir.Val.{ofZ, toZ}
 use Rattle.layout.specs.Carries.{carries}
 use Rattle.layout.specs.Layout.{File, Layout, fileBlocks, findFile, found, freeBlocks}
 use Rattle.section.specs.Limits.{heightCount}
-use Rattle.manager.specs.Conditions.{Reply, answered, refused}
+use Rattle.manager.specs.Conditions.{Reply, answered, fitsAlready, refused}
 use Rattle.manager.specs.Table.{CatalogueOf}
+
+-- the number of "fits already": no count of files is as high
+abbrev pub fitsNumber : ℕ
+fitsNumber = 256
 
 abbrev pub codeOf : Reply → ℤ
 codeOf (answered n) = pos n
 codeOf (refused n) = negℤ (pos n)
+codeOf fitsAlready = pos fitsNumber
 
 -- r is a signed number of 64 bits
 abbrev pub Signed : ℤ → Type 0

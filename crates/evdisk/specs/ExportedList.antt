@@ -4,22 +4,23 @@
 -- call's contract.
 use mathlib.Core.List.{List, [], _∷_}
 use mathlib.Core.Path.{_≡_}
-use Prim.Native.Nat.{_≤_, ℕ}
+use Prim.Native.Nat.{_-_, _≤_, ℕ}
 use lib.IntN.{ℤ, negℤ, pos}
-use lib.ListN.{length}
+use lib.ListN.{drop, length, replicate, take}
 use Rattle.catalogue.specs.declared.Version.{Version}
 use Rattle.layout.specs.Carries.{carries}
+use Rattle.layout.specs.Helping.{InCopyOrder}
 use Rattle.layout.specs.Layout.{File, Layout, breaksOf, fileBlocks, findFile, found, freeBlocks}
 use Rattle.layout.specs.Removing.{copiesOf, removal}
-use Rattle.manager.specs.Book.{Book, BookReply, Line, answers, anyNumber, bookFree, freshBook, inBook, line}
-use Rattle.manager.specs.Book.{lineWith, refuses}
-use Rattle.manager.specs.Call.{Call, ListedCall, add, breaks, check, free, outputOf, read, remove, replace}
+use Rattle.manager.specs.Book.{Book, BookReply, Line, answers, anyNumber, bookFree, fits, freshBook, inAnyOrder}
+use Rattle.manager.specs.Book.{inBook, line, lineWith, mostLines, refuses}
+use Rattle.manager.specs.Call.{Call, ListedCall, add, breaks, check, free, outputOf, read, remove, replace, which}
 use Rattle.manager.specs.Conditions.{Outcome}
 use Rattle.manager.specs.Outcomes.{formatOutcome, perform}
 use Rattle.manager.specs.Table.{CatalogueOf}
-use Rattle.manager.specs.WholeList.{Afterwards, RightLengths, Strikes}
-use Rattle.section.specs.Limits.{heightCount}
-use Rattle.evdisk.specs.Codes.{codeOf}
+use Rattle.manager.specs.WholeList.{Afterwards, OutputsAgree, RightLengths, Strikes}
+use Rattle.section.specs.Limits.{heightCount, mostFiles}
+use Rattle.evdisk.specs.Codes.{codeOf, fitsNumber}
 
 -- ---- what a call gives back
 
@@ -41,8 +42,8 @@ pub record AsPromised (o : Outcome) (r : Returned) : Type 0 where
   pub output : r .output ≡ o .output
 
 -- the same of a call that gets no disk: whatever disk the caller has stays beside it
-abbrev pub AsPromisedBeside : (List ℕ → Outcome) → ℤ → List ℕ → Type 0
-AsPromisedBeside o r cat = (d : List ℕ) → AsPromised (o d) (returned r cat d [])
+abbrev pub AsPromisedBeside : (List ℕ → Outcome) → ℤ → List ℕ → List ℕ → Type 0
+AsPromisedBeside o r cat out = (d : List ℕ) → AsPromised (o d) (returned r cat d out)
 
 -- a call of a list, and what it gave back
 pub record ExportedCall : Type 0 where
@@ -58,11 +59,13 @@ Promised (c ∷ cs) cat d =
 -- ---- at each call
 
 -- the number if the book refuses with n: minus n, and below 0; if it answers n: n; if it answers some number: 0 or
--- more
+-- more; if it answers n with numbers in any order: n, at most 64; if it says "fits already": 256
 abbrev pub CodeOfBook : BookReply → ℤ → Type 0
 CodeOfBook (refuses n) r = (1 ≤ n) × (r ≡ negℤ (pos n))
 CodeOfBook (answers n) r = r ≡ pos n
 CodeOfBook anyNumber r = (n : ℕ) × (r ≡ pos n)
+CodeOfBook (inAnyOrder n) r = (n ≤ mostLines) × (r ≡ pos n)
+CodeOfBook fits r = r ≡ pos fitsNumber
 
 -- only an add, a removal or a replacement that gives back 0 or more alters anything
 abbrev pub AltersBy : Call → ℤ → Type 0
@@ -71,14 +74,15 @@ AltersBy (remove i) r = (n : ℕ) × (r ≡ pos n)
 AltersBy (replace i bs) r = (n : ℕ) × (r ≡ pos n)
 AltersBy (read i p o) r = ⊥
 AltersBy (breaks i) r = ⊥
+AltersBy (which n o) r = ⊥
 AltersBy free r = ⊥
 AltersBy check r = ⊥
 
 -- what is claimed of one call that was given a catalogue and a disk, beside the book
 pub record CodeAgrees (c : Call) (cat d : List ℕ) (b : Book) (r : Returned) : Type 0 where
   pub code : CodeOfBook (inBook c b .reply) (r .code)
-  -- the whole output of a read
-  pub output : r .output ≡ inBook c b .output
+  -- the whole output of a read, and the numbers that `which` writes
+  pub output : OutputsAgree (inBook c b .reply) (r .output) (inBook c b .output)
   pub catalogue-kept : (AltersBy c (r .code) → ⊥) → r .catalogue ≡ cat
   pub disk-kept : (AltersBy c (r .code) → ⊥) → r .disk ≡ d
   pub book-kept : (AltersBy c (r .code) → ⊥) → inBook c b .book ≡ b
@@ -91,6 +95,12 @@ pub record CodeAgrees (c : Call) (cat d : List ℕ) (b : Book) (r : Returned) : 
   -- breaks gives back the breaks of the file's pieces in the catalogue
   pub breaks-answer : (i n : ℕ) (l : Layout) (f : File) → c ≡ breaks i → r .code ≡ pos n → CatalogueOf cat l
       → findFile i (l .files) ≡ found f → n ≡ breaksOf (f .pieces)
+  -- if `which` gives back k, at most 64, the k ids that it writes stand by the copies of the removals of their files,
+  -- equal counts by lower id, and zeros behind them
+  pub which-order : (n k : ℕ) (o : List ℕ) (l : Layout) → c ≡ which n o → r .code ≡ pos k → k ≤ mostFiles
+      → CatalogueOf cat l → InCopyOrder heightCount l (take k (r .output))
+  pub which-zeros : (n k : ℕ) (o : List ℕ) → c ≡ which n o → r .code ≡ pos k → k ≤ mostFiles
+      → drop k (r .output) ≡ replicate (mostFiles - k) 0
 
 -- every call of the list agrees, each on what the one before it left, and afterwards all is as claimed
 abbrev pub CodesFollow : Version → List ExportedCall → List ℕ → List ℕ → Book → Type 0

@@ -4,13 +4,14 @@ ghost use Rattle.looking.specs.Answers.{replyOf};
 ghost use Rattle.evdisk.specs.Codes.{Signed, codeOf};
 use looking::Answer;
 
-// The answered number, or minus the number of the refusal.
+// The answered number, that of "fits already", or minus the number of the refusal.
 pub fn code(a: Answer) -> i64
     ensures { λ r. ⌜ r ≡ codeOf (replyOf a) ⌝ }
     ensures signed { λ r. ⌜ Signed r ⌝ }
 {
     match a {
         Answer::Number(n) => n as i64,
+        Answer::FitsAlready => 256,
         Answer::CatalogueLength => -1,
         Answer::NoDisk => -2,
         Answer::NotSound => -3,
@@ -24,5 +25,6 @@ pub fn code(a: Answer) -> i64
         Answer::NoSpace => -11,
         Answer::LetterUnknown => -12,
         Answer::LetterNotAbove => -13,
+        Answer::ListLength => -14,
     }
 }

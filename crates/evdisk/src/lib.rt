@@ -1,4 +1,4 @@
-// The eight calls for C and Rust: the answer of a call, or minus the number of its refusal. Nothing else is done here.
+// The nine calls for C and Rust: the answer of a call, or minus the number of its refusal. Nothing else is done here.
 //
 // A buffer passes as a pointer and a length. The buffers of one call do not overlap.
 mod changing;

@@ -1,8 +1,9 @@
 // The exported calls that change no catalogue and no disk.
 ghost use mathlib.Core.List.{[]};
 ghost use mathlib.Core.Path.{_≡_};
-ghost use Rattle.manager.specs.Call.{breaks, check, free, read};
+ghost use Rattle.manager.specs.Call.{breaks, check, free, read, which};
 ghost use Rattle.manager.specs.Outcomes.{breaksOutcome, checkOutcome, freeOutcome, perform, readOutcome};
+ghost use Rattle.manager.specs.Outcomes.{whichOutcome};
 ghost use Rattle.evdisk.specs.Codes.{codeOf};
 ghost use Rattle.evdisk.specs.ExportedList.{AsPromised, AsPromisedBeside, returned};
 use super::codes::code;
@@ -31,9 +32,25 @@ pub extern "C" fn evdisk_read(cat: &[u8], disk: &[u8], id: u16, first: u64, out:
 pub extern "C" fn evdisk_breaks(cat: &[u8], id: u16) -> i64
     ensures answer { λ r. ⌜ r ≡ codeOf (breaksOutcome id (now (cat .entry)) .reply) ⌝ }
     ensures catalogue { λ _. ⌜ now (cat .exit) ≡ breaksOutcome id (now (cat .entry)) .catalogue ⌝ }
-    ensures listed { λ r. ⌜ AsPromisedBeside (perform (breaks id) (now (cat .entry))) r (now (cat .exit)) ⌝ }
+    ensures listed { λ r. ⌜ AsPromisedBeside (perform (breaks id) (now (cat .entry))) r (now (cat .exit)) [] ⌝ }
 {
     let a = event_disk::breaks(cat, id);
+    code(a)
+}
+
+// Fills the list with the ids of the files whose removal lets n blocks in: how many, or the number of "fits already".
+// Whatever disk the caller has stays as it is.
+#[no_mangle]
+pub extern "C" fn evdisk_which(cat: &[u8], n: u64, places: &mut [u16]) -> i64
+    ensures answer { λ r. ⌜ r ≡ codeOf (whichOutcome n (now (places .entry)) (now (cat .entry)) .reply) ⌝ }
+    ensures catalogue { λ _. ⌜ now (cat .exit)
+        ≡ whichOutcome n (now (places .entry)) (now (cat .entry)) .catalogue ⌝ }
+    ensures output { λ _. ⌜ now (places .exit)
+        ≡ whichOutcome n (now (places .entry)) (now (cat .entry)) .output ⌝ }
+    ensures listed { λ r. ⌜ AsPromisedBeside (perform (which n (now (places .entry))) (now (cat .entry))) r
+        (now (cat .exit)) (now (places .exit)) ⌝ }
+{
+    let a = event_disk::which(cat, n, places);
     code(a)
 }
 
@@ -42,7 +59,7 @@ pub extern "C" fn evdisk_breaks(cat: &[u8], id: u16) -> i64
 pub extern "C" fn evdisk_free(cat: &[u8]) -> i64
     ensures answer { λ r. ⌜ r ≡ codeOf (freeOutcome (now (cat .entry)) .reply) ⌝ }
     ensures catalogue { λ _. ⌜ now (cat .exit) ≡ freeOutcome (now (cat .entry)) .catalogue ⌝ }
-    ensures listed { λ r. ⌜ AsPromisedBeside (perform free (now (cat .entry))) r (now (cat .exit)) ⌝ }
+    ensures listed { λ r. ⌜ AsPromisedBeside (perform free (now (cat .entry))) r (now (cat .exit)) [] ⌝ }
 {
     let a = event_disk::free(cat);
     code(a)

@@ -1,4 +1,4 @@
-// The eight calls on a lent catalogue and a lent disk: whatever the buffers and numbers, an answer or a named
+// The nine calls on a lent catalogue and a lent disk: whatever the buffers and numbers, an answer or a named
 // refusal.
 mod catalogues;
 mod changing;
@@ -15,6 +15,7 @@ pub use reading::breaks;
 pub use reading::check;
 pub use reading::free;
 pub use reading::read;
+pub use reading::which;
 use table::Table;
 
 // The table of a catalogue, if it could be entered, or the refusal; and its version.

@@ -1,6 +1,6 @@
 // The calls that change no catalogue: it is loaded once, and the call answers from its table.
 ghost use mathlib.Core.Path.{_≡_};
-ghost use Rattle.manager.specs.Outcomes.{breaksOutcome, checkOutcome, freeOutcome, readOutcome};
+ghost use Rattle.manager.specs.Outcomes.{breaksOutcome, checkOutcome, freeOutcome, readOutcome, whichOutcome};
 ghost use Rattle.looking.specs.Answers.{replyOf};
 use crate::catalogues::open;
 use looking::Answer;
@@ -35,6 +35,23 @@ pub fn breaks(cat: &[u8], id: u16) -> Answer
     }
     let table = o.table;
     looking::breaks_in(table, id)
+}
+
+// Fills the list with the ids of the files whose removal alone lets n blocks in, fewest copied blocks first, then
+// zeros, and answers how many; or that n blocks fit already.
+pub fn which(cat: &[u8], n: u64, places: &mut [u16]) -> Answer
+    ensures answer { λ r. ⌜ replyOf r ≡ whichOutcome n (now (places .entry)) (now (cat .entry)) .reply ⌝ }
+    ensures catalogue { λ _. ⌜ now (cat .exit)
+        ≡ whichOutcome n (now (places .entry)) (now (cat .entry)) .catalogue ⌝ }
+    ensures output { λ _. ⌜ now (places .exit)
+        ≡ whichOutcome n (now (places .entry)) (now (cat .entry)) .output ⌝ }
+{
+    let o = open(cat);
+    if !o.entered {
+        return o.refusal;
+    }
+    let table = o.table;
+    choosing::which_in(table, n, places)
 }
 
 // Answers how many blocks are free.

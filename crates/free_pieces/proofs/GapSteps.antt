@@ -4,6 +4,7 @@ use mathlib.Core.List.{List, [], _++_, _∷_}
 use mathlib.Core.Path.{_∙_, _≡_, ap, ap₂, refl, subst, sym}
 use Prim.Native.Nat.{_+_, _-_, _<_, _≤_, ℕ}
 use native.Mathlib.Omega.{arith}
+use lib.Dec.{eqb}
 use lib.ListN.{drop, getD, length, length-append, length-take, take}
 use borrow.Author.Tests.{eq-eqb, ne-eqb}
 use Rattle.section.specs.declared.Section.{Section}
@@ -19,7 +20,7 @@ use Rattle.piece.proofs.Seen.{seen-get, seen-length}
 use Rattle.piece_lists.proofs.Arrays.{ahead, behind}
 use Rattle.free_pieces.specs.Free.{freeOf}
 use Rattle.layout.specs.Layout.{InOrder}
-use Rattle.free_pieces.specs.Gaps.{Gaps, PairFits, freeCopies, gapCopies, gapPast}
+use Rattle.free_pieces.specs.Gaps.{Gaps, PairFits, gapCopies, gapPast, pairCopies}
 use Rattle.free_pieces.specs.declared.Gap.{Gap}
 use Rattle.free_pieces.specs.declared.Pair.{Pair}
 
@@ -87,12 +88,8 @@ module _ (b : Section) (items : List Piece) (m j at : ℕ) (s : Section) (hm : m
   here : GapsLeft b at (s ∷ later items m (j + 1))
   here = subst (GapsLeft b at) cut g
 
-  -- what the gap asks for
-  pub gap-served : Addressable s
-  gap-served = each-head (here .served)
-
-  pub gap-ahead : isInside s b ≡ true → at ≤ s .first
-  gap-ahead = each-head (here .ahead)
+  gap-asks : Addressable s × (isInside s b ≡ true → at ≤ s .first)
+  gap-asks = (each-head (here .served), each-head (here .ahead))
 
   module _ (r : Gap) (e : Gaps b at s r) where
     -- it ends within the section
@@ -123,17 +120,21 @@ unfolding gapCopies
 gap-last b u at items m j hm le =
     ap (gapCopies b u at) (behind (seen items) m j (omega (arith, seen-length items)) le)
 
--- none if the buddy is the upper section, else the gaps
-pub copies-none : (l u : Section) (r : List Section) → buddyOf l .first ≡ u .first → freeCopies l u r ≡ []
-copies-none l u r e =
-    ap (λ t. cond t [] (gapCopies (buddyOf l) (u .first) (buddyOf l .first) r))
-    (eq-eqb (buddyOf l .first) (u .first) e)
+-- the copies of the merge of p, whose lower section's buddy is b: none if that is the upper section, else the gaps
+module _ (p : Pair) (b : Section) (is : b ≡ buddyOf (p .lower)) where
+  copies-by : (t : Bool) → eqb (b .first) (p .upper .first) ≡ t
+      → pairCopies p ≡ cond t [] (gapCopies b (p .upper .first) (b .first) (freeOf (p .others)))
+  copies-by t e =
+      ap (λ (s : Section). cond (eqb (s .first) (p .upper .first)) []
+      (gapCopies s (p .upper .first) (s .first) (freeOf (p .others)))) (sym is)
+      ∙ ap (λ t. cond t [] (gapCopies b (p .upper .first) (b .first) (freeOf (p .others)))) e
 
-pub copies-gaps : (l u : Section) (r : List Section) → (buddyOf l .first ≡ u .first → ⊥)
-    → freeCopies l u r ≡ gapCopies (buddyOf l) (u .first) (buddyOf l .first) r
-copies-gaps l u r e =
-    ap (λ t. cond t [] (gapCopies (buddyOf l) (u .first) (buddyOf l .first) r))
-    (ne-eqb (buddyOf l .first) (u .first) e)
+  pub copies-none : b .first ≡ p .upper .first → pairCopies p ≡ []
+  copies-none e = copies-by true (eq-eqb (b .first) (p .upper .first) e)
+
+  pub copies-gaps : (b .first ≡ p .upper .first → ⊥)
+      → pairCopies p ≡ gapCopies b (p .upper .first) (b .first) (freeOf (p .others))
+  copies-gaps e = copies-by false (ne-eqb (b .first) (p .upper .first) e)
 
 -- the gaps before the first j of m pieces have n blocks
 pub record Counting (b : Section) (items : List Piece) (m at n j : ℕ) : Type 0 where
@@ -163,6 +164,12 @@ counting-start p b f e = record {
 }
 
 module _ (b : Section) (items : List Piece) (m at n j : ℕ) (k : Counting b items m at n j) where
+  -- what the gap before the next piece asks for
+  pub counting-gap : (s : Section) → j < m → s ≡ sectionIn (getD items j noPiece)
+      → (Addressable b × Addressable s) × (isInside s b ≡ true → at ≤ s .first)
+  counting-gap s lt is =
+      let w = gap-asks b items m j at s (k .within) lt is (k .left) in ((k .served, w .0), w .1)
+
   pub counting-more : (s : Section) → j < m → s ≡ sectionIn (getD items j noPiece) → (r : Gap) → Gaps b at s r
       → Counting b items m (r .past) (n + r .count) (j + 1)
   counting-more s lt is r e = record {

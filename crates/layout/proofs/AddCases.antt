@@ -1,14 +1,14 @@
 -- Cases 5, 6 and 8 of document 01 on layouts, splits through all heights, the files of case 6 by id, page order,
 -- breaks and blocks in a range, in literal numbers. Assumes nothing.
 use mathlib.Core.Bool.{false, true}
-use mathlib.Core.List.{List, [], _∷_}
+use mathlib.Core.List.{[], _∷_}
 use mathlib.Core.Path.{_≡_, refl}
 use Rattle.layout.specs.Adding.{allocate, allocated, takeFirst, takePiece, tooFew, withFile}
-use Rattle.layout.specs.Layout.{File, breaksOf, byLength, findFile, found, freeBlocks, hasFile, inRange}
+use Rattle.layout.specs.Layout.{breaksOf, byLength, findFile, found, freeBlocks, hasFile, inRange}
 use Rattle.layout.specs.Layout.{missing}
 use Rattle.layout.specs.Lists.{insertBy, sortBy}
 use Rattle.section.specs.Sections.{section}
-use Rattle.layout.specs.Cases.{file}
+use Rattle.layout.specs.Cases.{caseSix, disk, five, nine}
 
 -- case 5: one block; case 6: two; case 8: ten, and eleven are too many
 pub cases-five-to-eight :
@@ -41,33 +41,27 @@ pub split-two-pieces : allocate 0 13 5 (section 0 1 ∷ section 32 5 ∷ [])
 unfolding allocate takePiece takeFirst insertBy
 split-two-pieces = refl
 
-abbrev caseSix : List File
-caseSix = file 2 (section 4 1 ∷ []) ∷ file 5 (section 0 1 ∷ section 2 0 ∷ []) ∷ file 9 (section 3 0 ∷ []) ∷ []
-
 -- case 6: id 2 stands before 5 and 9, and f is 10
 pub case-six-layout :
     withFile 2 (section 4 1 ∷ []) (section 6 1 ∷ section 8 3 ∷ [])
-    (record {
-      blocks = 16;
-      files = file 5 (section 0 1 ∷ section 2 0 ∷ []) ∷ file 9 (section 3 0 ∷ []) ∷ [];
-      free = section 4 2 ∷ section 8 3 ∷ [];
-    })
-    ≡ record { blocks = 16; files = caseSix; free = section 6 1 ∷ section 8 3 ∷ [] }
+    (disk 16 (five ∷ nine ∷ []) (section 4 2 ∷ section 8 3 ∷ []))
+    ≡ caseSix
 unfolding insertBy
 case-six-layout = refl
 
-pub case-six-free :
-    freeBlocks (record { blocks = 16; files = caseSix; free = section 6 1 ∷ section 8 3 ∷ [] }) ≡ 10
+pub case-six-free : freeBlocks caseSix ≡ 10
 case-six-free = refl
 
 -- the files of case 6 by their ids
 pub case-six-files :
-    findFile 9 caseSix ∷ findFile 5 caseSix ∷ findFile 7 caseSix ∷ []
-    ≡ found (file 9 (section 3 0 ∷ [])) ∷ found (file 5 (section 0 1 ∷ section 2 0 ∷ [])) ∷ missing ∷ []
+    findFile 9 (caseSix .files) ∷ findFile 5 (caseSix .files) ∷ findFile 7 (caseSix .files) ∷ []
+    ≡ found nine ∷ found five ∷ missing ∷ []
 unfolding findFile
 case-six-files = refl
 
-pub case-six-has : hasFile 9 caseSix ∷ hasFile 2 caseSix ∷ hasFile 7 caseSix ∷ [] ≡ true ∷ true ∷ false ∷ []
+pub case-six-has :
+    hasFile 9 (caseSix .files) ∷ hasFile 2 (caseSix .files) ∷ hasFile 7 (caseSix .files) ∷ []
+    ≡ true ∷ true ∷ false ∷ []
 unfolding findFile
 case-six-has = refl
 

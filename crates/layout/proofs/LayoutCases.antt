@@ -3,7 +3,7 @@
 use mathlib.Core.List.{[], _∷_}
 use mathlib.Core.Path.{_≡_, refl}
 use Rattle.layout.specs.Adding.{allocate, allocated, takeFirst, takePiece}
-use Rattle.layout.specs.Cases.{copy, file, removed}
+use Rattle.layout.specs.Cases.{caseSix, copy, file, five, removed}
 use Rattle.layout.specs.Layout.{blockRun, blocksOf, filePieces, freshLayout, inRange, piecesFrom}
 use Rattle.layout.specs.Lists.{insertBy, sortBy}
 use Rattle.layout.specs.Removing.{buddyPair, copiesFrom, copiesOf, copyRun, insertAll, layoutAfter, lowestTwo}
@@ -23,12 +23,7 @@ case-four = refl
 
 -- cases 7, 9, 10 and 11
 pub removals :
-    removed (file 5 (section 0 1 ∷ section 2 0 ∷ []))
-    (record {
-      blocks = 16;
-      files = file 2 (section 4 1 ∷ []) ∷ file 5 (section 0 1 ∷ section 2 0 ∷ []) ∷ file 9 (section 3 0 ∷ []) ∷ [];
-      free = section 6 1 ∷ section 8 3 ∷ [];
-    })
+    removed five caseSix
     ∷ removed (file 1 (section 0 0 ∷ []))
     (record { blocks = 2; files = file 1 (section 0 0 ∷ []) ∷ []; free = section 1 0 ∷ [] })
     ∷ removed (file 1 (section 4 0 ∷ []))

@@ -32,6 +32,10 @@ pub mod UnsoundCases
 pub mod SoundSums
 pub mod Finding
 pub mod LookingUp
+pub mod Sorted
+pub mod Helping
+pub mod HelpingOrder
+pub mod HelpingIds
 pub mod Removed
 pub mod Added
 pub mod PiecesFrom
@@ -56,6 +60,8 @@ pub mod PageOrder
 pub mod LayoutCases
 pub mod BuddyCases
 pub mod LookUpCases
+pub mod HelpingCases
+pub mod HelpingWords
 pub mod AddCases
 pub mod LowestTwo
 pub mod LowerHalves

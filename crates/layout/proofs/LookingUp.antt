@@ -9,8 +9,8 @@ use lib.Dec.{eqb, ltb}
 use lib.ListN.{length, take}
 use borrow.Author.Tests.{eqb-false, eqb-true, le-ltb, lt-ltb, ltb-false, ltb-true}
 use Rattle.layout.proofs.Finding.{find-here, find-nil, find-past}
-use Rattle.layout.proofs.Lists.{each-imp}
-use Rattle.layout.specs.Layout.{File, Layout, findFile, missing}
+use Rattle.layout.proofs.Lists.{each-and, each-imp}
+use Rattle.layout.specs.Layout.{File, Layout, findFile, found, missing}
 use Rattle.layout.specs.Lists.{Each, done, indicator, more, next, none}
 use Rattle.layout.specs.Sound.{Sound}
 use Rattle.layout.specs.LookingUp.{ByRisingId, FirstBelow, idsBelow, idsRead, lookUp}
@@ -18,6 +18,12 @@ use Rattle.layout.specs.LookingUp.{ByRisingId, FirstBelow, idsBelow, ids
 -- the files of a sound layout stand by rising id
 pub sound-rises : {k : ℕ} {l : Layout} → Sound k l → ByRisingId (l .files)
 sound-rises s = s .ids-rise
+
+-- among files by rising id each is found by its own
+pub rising-found : {l : List File} → ByRisingId l → Each (λ (f : File). findFile (f .id) l ≡ found f) l
+rising-found none = done
+rising-found (next {a = f} {l = l} p q) = more (find-here (f .id) f l refl)
+    (each-imp (λ g h. find-past (g .id) f l (λ e. omega (arith, h .0)) ∙ h .1) (each-and p (rising-found q)))
 
 -- the ids read are those below, and one more exactly if there are others
 pub read-below : (i : ℕ) (l : List File) → idsRead i l ≡ idsBelow i l + indicator (ltb (idsBelow i l) (length l))

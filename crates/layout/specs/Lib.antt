@@ -15,4 +15,6 @@ pub mod Sums
 pub mod Removals
 pub mod Cases
 pub mod LookUpRows
+pub mod Helping
+pub mod HelpingRows
 pub mod Moves

@@ -3,7 +3,7 @@
 use mathlib.Core.List.{List, [], _∷_}
 use Prim.Native.Nat.{ℕ}
 use Rattle.section.specs.Sections.{section}
-use Rattle.layout.specs.Cases.{file, singles}
+use Rattle.layout.specs.Cases.{caseSix, file, five, nine, singles, two}
 use Rattle.layout.specs.Layout.{File, Found, found, missing}
 use Rattle.layout.specs.LookingUp.{LookUp, lookUp}
 
@@ -21,17 +21,8 @@ abbrev row : List File → ℕ → Found → ℕ → Row
 row fs i x n = record { files = fs; sought = i; given = record { file = x; idsRead = n } }
 
 -- the files of case 6
-abbrev two : File
-two = file 2 (section 4 1 ∷ [])
-
-abbrev five : File
-five = file 5 (section 0 1 ∷ section 2 0 ∷ [])
-
-abbrev nine : File
-nine = file 9 (section 3 0 ∷ [])
-
 abbrev three : List File
-three = two ∷ five ∷ nine ∷ []
+three = caseSix .files
 
 -- of the lowest id that a file can have
 abbrev lowest : File

@@ -1,11 +1,12 @@
--- What the code's answers stand for: the number of each refusal, 12 and 13 by document 02, W1, the others by document
--- 01; and the answered number. Definitions only.
-use Rattle.manager.specs.Conditions.{Reply, answered, refused}
+-- What the code's answers stand for: the number of each refusal, 12 and 13 by document 02, W1, 14 by W4, the others by
+-- document 01; the answered number, and "fits already". Definitions only.
+use Rattle.manager.specs.Conditions.{Reply, answered, fitsAlready, refused}
 use Rattle.looking.specs.declared.Answer.{Answer}
 use Rattle.looking.specs.declared.Answer.the-variants as Answer·
 
 abbrev pub replyOf : Answer → Reply
 replyOf (Answer·.Number n) = answered n
+replyOf Answer·.FitsAlready = fitsAlready
 replyOf Answer·.CatalogueLength = refused 1
 replyOf Answer·.NoDisk = refused 2
 replyOf Answer·.NotSound = refused 3
@@ -19,3 +20,4 @@ replyOf Answer·.FilesFull = refused 10
 replyOf Answer·.NoSpace = refused 11
 replyOf Answer·.LetterUnknown = refused 12
 replyOf Answer·.LetterNotAbove = refused 13
+replyOf Answer·.ListLength = refused 14

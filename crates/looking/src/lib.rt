@@ -9,9 +9,10 @@ pub use check::check_in;
 pub use free::free_in;
 pub use read::read_in;
 
-// The answered number, or the refusal by name.
+// The answered number, that blocks fit already, or the refusal by name.
 pub enum Answer {
     Number(u32),
+    FitsAlready,
     CatalogueLength,
     NoDisk,
     NotSound,
@@ -25,4 +26,5 @@ pub enum Answer {
     NoSpace,
     LetterUnknown,
     LetterNotAbove,
+    ListLength,
 }

@@ -23,14 +23,16 @@ use Rattle.manager.proofs.OnSound.{add-on-sound, breaks-on-sound, check
 use Rattle.manager.proofs.OnSound.{read-on-sound, remove-on-sound}
 use Rattle.manager.proofs.RemoveFromSound.{removes}
 use Rattle.manager.proofs.ReplaceAgrees.{replace-agrees}
+use Rattle.manager.proofs.Replies.{answered-same}
 use Rattle.manager.proofs.Standing.{book-free, bookOn}
 use Rattle.manager.proofs.ChangeClaims.{add-claim, remove-claim}
-use Rattle.manager.proofs.Steps.{StepClaim, answered-claim, answered-same, refused-claim, same-file}
+use Rattle.manager.proofs.Steps.{StepClaim, kept-claim, refused-claim, same-file}
+use Rattle.manager.proofs.WhichAgrees.{which-agrees}
 use Rattle.manager.specs.Book.{Book, BookStep, answers, anyNumber, bookAdd, bookAnswers, bookBreaks, bookFree}
 use Rattle.manager.specs.Book.{bookPages, bookRead, bookReadLine, bookRefuses, bookRemove, bytesOf}
 use Rattle.manager.specs.Book.{contentPages, inBook, strikeLine, writeLine}
-use Rattle.manager.specs.Call.{Call, TwoByteId, add, breaks, check, free, read, remove, replace}
-use Rattle.manager.specs.Conditions.{Outcome, beyond, condition, firstRefusal, outcome, replyUnless}
+use Rattle.manager.specs.Call.{Call, TwoByteId, add, breaks, check, free, read, remove, replace, which}
+use Rattle.manager.specs.Conditions.{Outcome, answered, beyond, condition, firstRefusal, outcome, replyUnless}
 use Rattle.manager.specs.Conditions.{unlessRefused, unpaged}
 use Rattle.manager.specs.Disk.{joinPages, pageCount, pagesOn}
 use Rattle.manager.specs.Outcomes.{addOutcome, addPieces, afterMerges, breaksFound, breaksReply, checkReply}
@@ -126,8 +128,9 @@ module _ (v : Version) (room : Roomy v) (l : Layout) (s : Sound (v .heights) l) 
       inner f e false false =
           subst (λ z. Claim (read i p o) (readFound p o cat d (found f)) (bookAnswers (bookPages o) b z))
           (sym (bytes-of (take (bookPages o) (drop p (pagesOn d (f .pieces))))))
-          (answered-claim v room l s d ld (read i p o) (pageCount o) (answers (bookPages o))
-          (joinPages (take (pageCount o) (drop p (pagesOn d (f .pieces))))) refl
+          (kept-claim v room l s d ld (read i p o) (answered (pageCount o)) (answers (bookPages o))
+          (joinPages (take (pageCount o) (drop p (pagesOn d (f .pieces)))))
+          (joinPages (take (pageCount o) (drop p (pagesOn d (f .pieces))))) refl refl
           (λ j e. e)
           (λ j k m g z. absurd (let q : _≡_ {A = ℕ} 0 1 = cc in omega arith)))
 
@@ -159,7 +162,7 @@ module _ (v : Version) (room : Roomy v) (l : Layout) (s : Sound (v .heights) l) 
       go true e x e6 = refused-claim v room l s d ld (breaks i) 5
       go false e missing e6 = refused-claim v room l s d ld (breaks i) 6
       go false e (found f) e6 =
-          answered-claim v room l s d ld (breaks i) (breaksOf (f .pieces)) anyNumber [] tt
+          kept-claim v room l s d ld (breaks i) (answered (breaksOf (f .pieces))) anyNumber [] [] tt refl
           (λ j e. e)
           (λ j k m g z r w q.
           (let same-id : i ≡ j = cc in
@@ -169,7 +172,7 @@ module _ (v : Version) (room : Roomy v) (l : Layout) (s : Sound (v .heights) l) 
   free-agrees : Claim free (outcome (freeReply cat) cat d []) (bookAnswers (bookFree b) b [])
   free-agrees =
       subst (λ r. Claim free (outcome r cat d []) (bookAnswers (bookFree b) b [])) (sym (free-on-sound v room l s))
-      (answered-claim v room l s d ld free (freeBlocks l) (answers (bookFree b)) [] (sym (book-free d l))
+      (kept-claim v room l s d ld free (answered (freeBlocks l)) (answers (bookFree b)) [] [] (sym (book-free d l)) refl
       (λ j e. e)
       (λ j k m g z. absurd (let q : _≡_ {A = ℕ} 0 1 = cc in omega arith)))
 
@@ -177,7 +180,7 @@ module _ (v : Version) (room : Roomy v) (l : Layout) (s : Sound (v .heights) l) 
   check-agrees =
       subst (λ r. Claim check (outcome r cat d []) (bookAnswers (l .blocks) b []))
       (sym (check-on-sound v room l s d ld))
-      (answered-claim v room l s d ld check (l .blocks) (answers (l .blocks)) [] refl
+      (kept-claim v room l s d ld check (answered (l .blocks)) (answers (l .blocks)) [] [] refl refl
       (λ j e. e)
       (λ j k m g z. absurd (let q : _≡_ {A = ℕ} 0 1 = cc in omega arith)))
 
@@ -188,5 +191,6 @@ module _ (v : Version) (room : Roomy v) (l : Layout) (s : Sound (v .heights) l) 
   call-agrees (replace i bs) _ = replace-agrees v room l s d ld i bs
   call-agrees (read i p o) _ = read-agrees i p o
   call-agrees (breaks i) _ = breaks-agrees i
+  call-agrees (which n o) _ = which-agrees v room l s d ld n o
   call-agrees free _ = free-agrees
   call-agrees check _ = check-agrees

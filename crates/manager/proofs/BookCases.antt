@@ -1,11 +1,14 @@
--- Replacements in the plain book, computed from literal bytes: each refusal in its order, and the lines afterwards. The
--- bytes 82, 68, 81 and 77 are R, D, Q and M; 90 is another letter. Assumes nothing.
+-- Replacements and `which` in the plain book, computed from literal bytes and numbers: each refusal in its order, the
+-- lines afterwards, and the lists of ids. The bytes 82, 68, 81 and 77 are R, D, Q and M; 90 is another letter. Assumes
+-- nothing.
 use mathlib.Core.List.{List, [], _++_, _∷_, map}
 use mathlib.Core.Path.{_≡_, refl}
 use Prim.Native.Nat.{ℕ}
 use lib.ListN.{replicate}
-use Rattle.manager.specs.Book.{Book, BookStep, Line, anyNumber, bookRank, bookReplace, contentPages, countFrom}
-use Rattle.manager.specs.Book.{countedFrom, letterOn, lineWith, pagesInLines, refuses, strikeLine, writeLine}
+use Rattle.manager.specs.Book.{Book, BookReply, BookStep, Line, anyNumber, bookReplace, bookWhich, contentPages}
+use Rattle.manager.specs.Book.{countFrom, fits, idsWithRoom, inAnyOrder, lineWith, pagesInLines, refuses}
+use Rattle.manager.specs.Book.{strikeLine, writeLine}
+use Rattle.manager.specs.BookLetters.{bookRank, countedFrom, letterOn}
 
 -- a page whose byte 6 is y, and all others x
 abbrev page : ℕ → ℕ → List ℕ
@@ -41,3 +44,54 @@ pub book-line-replaced :
     ≡ fiveBlocks (lineOf 1 (page 77 77 ∷ []) ∷ lineOf 2 (page 82 81 ∷ page 1 2 ∷ page 3 4 ∷ []) ∷ [])
 unfolding contentPages countFrom pagesInLines lineWith writeLine strikeLine countedFrom letterOn bookRank
 book-line-replaced = refl
+
+-- ---- which removal lets n blocks in
+
+-- case 6 of document 01: 16 blocks, of which ten are free; ids 2, 5 and 9 with 2, 3 and 1 pages
+abbrev caseSix : Book
+caseSix = record {
+  blocks = 16;
+  lines =
+      lineOf 2 (replicate 2 (page 1 1)) ∷ lineOf 5 (replicate 3 (page 2 2)) ∷ lineOf 9 (page 3 3 ∷ []) ∷ [];
+}
+
+-- a list of 64 places, with 7 in each
+abbrev places : List ℕ
+places = replicate 64 7
+
+abbrev gives : BookReply → List ℕ → Book → BookStep
+gives r o b = record { reply = r; book = b; output = o }
+
+-- no blocks, also with a list of another length; lists of 63 and 65 places and of none; these keep their numbers
+pub book-which-refused :
+    bookWhich 0 places caseSix ∷ bookWhich 0 (replicate 63 7) caseSix ∷ bookWhich 11 (replicate 63 7) caseSix
+    ∷ bookWhich 10 (replicate 65 7) caseSix ∷ bookWhich 14 [] caseSix ∷ []
+    ≡ gives (refuses 8) places caseSix ∷ gives (refuses 8) (replicate 63 7) caseSix
+    ∷ gives (refuses 14) (replicate 63 7) caseSix ∷ gives (refuses 14) (replicate 65 7) caseSix
+    ∷ gives (refuses 14) [] caseSix ∷ []
+unfolding pagesInLines idsWithRoom
+book-which-refused = refl
+
+-- one block and ten fit already; eleven fit after any of the three removals, twelve after two, thirteen after one and
+-- fourteen after none, which is no "fits already"
+pub book-which-listed :
+    bookWhich 1 places caseSix ∷ bookWhich 10 places caseSix ∷ bookWhich 11 places caseSix
+    ∷ bookWhich 12 places caseSix ∷ bookWhich 13 places caseSix ∷ bookWhich 14 places caseSix ∷ []
+    ≡ gives fits (replicate 64 0) caseSix ∷ gives fits (replicate 64 0) caseSix
+    ∷ gives (inAnyOrder 3) (2 ∷ 5 ∷ 9 ∷ replicate 61 0) caseSix
+    ∷ gives (inAnyOrder 2) (2 ∷ 5 ∷ replicate 62 0) caseSix ∷ gives (inAnyOrder 1) (5 ∷ replicate 63 0) caseSix
+    ∷ gives (inAnyOrder 0) (replicate 64 0) caseSix ∷ []
+unfolding pagesInLines idsWithRoom
+book-which-listed = refl
+
+-- 64 lines of a page, and one block that is free
+abbrev fullBook : Book
+fullBook = record { blocks = 65; lines = map (λ i. lineOf i (page 1 1 ∷ [])) (countFrom 1 64) }
+
+-- one block fits already; two fit after any of the 64 removals, and no zero is left
+pub book-which-full :
+    bookWhich 1 places fullBook ∷ bookWhich 2 places fullBook ∷ bookWhich 3 places fullBook ∷ []
+    ≡ gives fits (replicate 64 0) fullBook ∷ gives (inAnyOrder 64) (countFrom 1 64) fullBook
+    ∷ gives (inAnyOrder 0) (replicate 64 0) fullBook ∷ []
+unfolding pagesInLines idsWithRoom countFrom
+book-which-full = refl

@@ -11,9 +11,11 @@ use Rattle.layout.specs.Layout.{freshLayout}
 use Rattle.manager.specs.Conditions.{addConditions, answered, breaksConditions, checkConditions, firstRefusal}
 use Rattle.manager.specs.Conditions.{formatConditions, freeConditions, outcome, readConditions}
 use Rattle.manager.specs.Conditions.{removeConditions, replaceConditions, replyUnless, unlessRefused}
+use Rattle.manager.specs.Conditions.{whichConditions}
 use Rattle.manager.specs.Disk.{pageCount}
 use Rattle.manager.specs.Outcomes.{addIn, breaksIn, checkIn, doAdd, doBreaks, doCheck, doFree, doRead}
-use Rattle.manager.specs.Outcomes.{doRemove, formatIn, freeIn, readIn, removeIn, removeThenAdd, replaceOutcome}
+use Rattle.manager.specs.Outcomes.{doRemove, doWhich, formatIn, freeIn, readIn, removeIn, removeThenAdd}
+use Rattle.manager.specs.Outcomes.{replaceOutcome, whichIn}
 use Rattle.section.specs.Limits.{heightCount}
 
 module _ (v : Version) (cat : List ℕ) where
@@ -48,6 +50,12 @@ module _ (v : Version) (cat : List ℕ) where
       → breaksIn v i cat ≡ replyUnless (firstRefusal (breaksConditions v i cat)) (doBreaks i (readCatalogue v cat))
   unfolding breaksIn
   breaksIn-is i = refl
+
+  pub whichIn-is : (n : ℕ) (o d : List ℕ)
+      → whichIn v n o cat d
+      ≡ unlessRefused (firstRefusal (whichConditions v n o cat)) cat d o (doWhich n o cat d (readCatalogue v cat))
+  unfolding whichIn
+  whichIn-is n o d = refl
 
   pub freeIn-is : freeIn v cat ≡ replyUnless (firstRefusal (freeConditions v cat)) (doFree (readCatalogue v cat))
   unfolding freeIn

@@ -14,17 +14,17 @@ use Rattle.catalogue.specs.declared.Version.{Version}
 use Rattle.layout.specs.Layout.{Layout, findFile, freeBlocks, hasFile}
 use Rattle.manager.proofs.Catalogues.{decides-length, read-catalogue, unread-catalogue}
 use Rattle.manager.proofs.ConditionLists.{Judges, judges-end, judges-row}
-use Rattle.manager.proofs.Deciding.{decides-below, decides-equal, decides-false, decides-true}
+use Rattle.manager.proofs.Deciding.{decides-below, decides-equal, decides-false, decides-not, decides-true}
 use Rattle.manager.proofs.TableRows.{decides-too-long, decides-unpaged, disk-row, full-row, missing-row}
 use Rattle.manager.proofs.TableRows.{not-above-row, past-end-row, space-row, there-row}
-use Rattle.manager.specs.Call.{Call, add, breaks, check, free, read, remove, replace}
+use Rattle.manager.specs.Call.{Call, add, breaks, check, free, read, remove, replace, which}
 use Rattle.manager.specs.Conditions.{Condition, addConditions, breaksConditions, checkConditions, condition}
 use Rattle.manager.specs.Conditions.{freeConditions, onLayout, readConditions, removeConditions}
-use Rattle.manager.specs.Conditions.{replaceConditions, wrongCatalogue}
+use Rattle.manager.specs.Conditions.{replaceConditions, whichConditions, wrongCatalogue}
 use Rattle.manager.specs.Disk.{cutPages, pageCount}
 use Rattle.manager.specs.Table.{CatalogueOf, GivenIf, Refusal, bufferLength, catalogueLength, diskLength}
 use Rattle.manager.specs.Table.{filesFull, firstRank, idMissing, idThere, idZero, letterNotAbove}
-use Rattle.manager.specs.Table.{letterUnknown, noSpace, notSound, numbersOf, pastEnd}
+use Rattle.manager.specs.Table.{letterUnknown, listLength, noSpace, notSound, numbersOf, pastEnd}
 
 -- the conditions of a call, in order
 abbrev pub conditionsOf : Call → List ℕ → List ℕ → List Condition
@@ -33,6 +33,7 @@ conditionsOf (remove i) cat d = removeConditions (versionOf cat) i cat d
 conditionsOf (replace i bs) cat d = replaceConditions (versionOf cat) i bs cat d
 conditionsOf (read i p o) cat d = readConditions (versionOf cat) i p o cat d
 conditionsOf (breaks i) cat d = breaksConditions (versionOf cat) i cat
+conditionsOf (which n o) cat d = whichConditions (versionOf cat) n o cat
 conditionsOf free cat d = freeConditions (versionOf cat) cat
 conditionsOf check cat d = checkConditions (versionOf cat) cat d
 
@@ -103,6 +104,11 @@ module _ (cat d : List ℕ) (bytes : Bytes cat) where
       judges-catalogue (breaks i) _ λ l h.
       judges-row idZero (decides-equal i 0) λ _.
       judges-row idMissing (missing-row cat d l h i) λ _.
+      judges-end
+  call-judged (which n o) =
+      judges-catalogue (which n o) _ λ l h.
+      judges-row bufferLength (decides-equal n 0) λ _.
+      judges-row listLength (decides-not (decides-equal (length o) _)) λ _.
       judges-end
   call-judged free = judges-catalogue free _ λ l h. judges-end
   call-judged check =

@@ -15,6 +15,7 @@ use Rattle.layout.specs.Moves.{same}
 use Rattle.layout.specs.Removing.{copiesOf, layoutAfter, release, removal}
 use Rattle.layout.specs.Sound.{Sound}
 use Rattle.manager.proofs.Lines.{line-with, lineFound, pages-length}
+use Rattle.manager.proofs.Replies.{answered-same}
 use Rattle.manager.proofs.Standing.{book-free, bookOn}
 use Rattle.manager.specs.Book.{Book, Line, answers, anyNumber, bookAnswers, bookFree}
 use Rattle.manager.specs.Book.{bookPages, contentPages, line, lineWith, strikeLine}
@@ -25,7 +26,7 @@ use Rattle.manager.specs.Conditions.{Outcome, answered}
 use Rattle.manager.specs.Table.{CatalogueOf}
 use Rattle.manager.specs.WholeList.{Answered, RepliesAgree, lineOn}
 use Rattle.section.specs.Limits.{blockSize, heightCount}
-use Rattle.manager.proofs.Steps.{StepClaim, answered-same, same-file, same-layout}
+use Rattle.manager.proofs.Steps.{StepClaim, same-file, same-layout}
 
 module _ (v : Version) (room : Roomy v) (l : Layout) (s : Sound (v .heights) l) (d : List ℕ)
     (ld : length d ≡ blockSize * l .blocks) where

@@ -1,57 +1,107 @@
 -- What the words of the claim mean, from its own definitions and from any proof of it: a weaker claim proves less than
 -- this. Assumes nothing.
 use mathlib.Core.List.{List, [], _∷_}
-use mathlib.Core.Logic.{_↔_, inl, inr}
-use mathlib.Core.Path.{_≡_, ap, refl, subst}
+use mathlib.Core.Logic.{_↔_, _⊎_, inl, inr}
+use mathlib.Core.Path.{_≡_, ap, refl, subst, sym}
 use Prim.Native.Nat.{_*_, _-_, _<_, _≤_, ℕ}
 use native.Mathlib.Omega.{arith}
 use lib.ListN.{length}
 use Rattle.catalogue.specs.Version.{here, later, version1, version2}
 use Rattle.catalogue.specs.declared.Version.{Version}
 use Rattle.layout.specs.Layout.{File, Layout, breaksOf, findFile, found}
-use Rattle.manager.specs.Book.{Book, BookReply, answers, anyNumber, inBook}
-use Rattle.manager.specs.Book.{refuses}
+use Rattle.manager.proofs.OnlyWhich.{Ordered, ordered-or-which}
+use Rattle.manager.specs.Book.{Book, BookReply, answers, anyNumber, fits, inAnyOrder, inBook, refuses}
 use Rattle.manager.specs.Call.{Call, ListedCall, TwoByteId, add, breaks, check, free, read, remove, replace}
-use Rattle.manager.specs.Claimed.{Changing, Claimed, CopiesClaimed}
-use Rattle.manager.specs.Conditions.{Reply, answered, refused}
+use Rattle.manager.specs.Call.{which}
+use Rattle.manager.specs.Claimed.{Asking, Changing, Claimed, CopiesClaimed}
+use Rattle.manager.specs.Conditions.{Reply, answered, fitsAlready, refused}
 use Rattle.manager.specs.Outcomes.{perform}
-use Rattle.manager.specs.Table.{CatalogueOf, idOf}
-use Rattle.manager.specs.WholeList.{Afterwards, Alters, CallAgrees, Follows, RepliesAgree, RightLengths}
-use Rattle.manager.specs.WholeList.{WholeList}
+use Rattle.manager.specs.Table.{CatalogueOf}
+use Rattle.manager.specs.Arguments.{idOf}
+use Rattle.manager.specs.WholeList.{Afterwards, Alters, Answered, CallAgrees, Follows, OutputsAgree}
+use Rattle.manager.specs.WholeList.{RepliesAgree, RightLengths, WholeList}
 
 -- ---- at each call
 
--- the manager refuses exactly when the book does, with the same number
-pub refuses-exactly : (r : Reply) (s : BookReply) → RepliesAgree r s → (n : ℕ) → (r ≡ refused n) ↔ (s ≡ refuses n)
-refuses-exactly (refused m) (refuses k) e n = (λ p. (let z : m ≡ n = cc in cc), λ p. (let z : k ≡ n = cc in cc))
-refuses-exactly (answered m) (answers k) e n = (
-  λ p. absurd (let z : _≡_ {A = ℕ} 0 1 = cc in omega arith),
-  λ p. absurd (let z : _≡_ {A = ℕ} 0 1 = cc in omega arith),
-)
-refuses-exactly (answered m) anyNumber e n = (
-  λ p. absurd (let z : _≡_ {A = ℕ} 0 1 = cc in omega arith),
-  λ p. absurd (let z : _≡_ {A = ℕ} 0 1 = cc in omega arith),
-)
-refuses-exactly (refused m) (answers k) e n = absurd e
-refuses-exactly (refused m) anyNumber e n = absurd e
-refuses-exactly (answered m) (refuses k) e n = absurd e
+-- what the manager replies where the book refuses, has an answer, counts ids in any order, or says that n fits
+pub refused-alike : (r : Reply) (n : ℕ) → RepliesAgree r (refuses n) → r ≡ refused n
+refused-alike (refused m) n e = ap refused e
+refused-alike (answered m) n e = absurd e
+refused-alike fitsAlready n e = absurd e
 
--- and where the book has an answer, that is the manager's
 pub answers-alike : (r : Reply) (n : ℕ) → RepliesAgree r (answers n) → r ≡ answered n
 answers-alike (answered m) n e = ap answered e
 answers-alike (refused m) n e = absurd e
+answers-alike fitsAlready n e = absurd e
+
+pub counts-alike : (r : Reply) (n : ℕ) → RepliesAgree r (inAnyOrder n) → r ≡ answered n
+counts-alike (answered m) n e = ap answered e
+counts-alike (refused m) n e = absurd e
+counts-alike fitsAlready n e = absurd e
+
+pub fits-alike : (r : Reply) → RepliesAgree r fits → r ≡ fitsAlready
+fits-alike fitsAlready e = refl
+fits-alike (answered m) e = absurd e
+fits-alike (refused m) e = absurd e
+
+-- the manager refuses exactly when the book does, with the same number
+pub refuses-exactly : (r : Reply) (s : BookReply) → RepliesAgree r s → (n : ℕ) → (r ≡ refused n) ↔ (s ≡ refuses n)
+refuses-exactly r s e n = (
+  λ p. go s (subst (λ x. RepliesAgree x s) p e),
+  λ p. refused-alike r n (subst (RepliesAgree r) p e),
+)
+  where
+    go : (s : BookReply) → RepliesAgree (refused n) s → s ≡ refuses n
+    go (refuses m) q = ap refuses (sym q)
+    go (answers m) q = absurd q
+    go anyNumber q = absurd q
+    go (inAnyOrder m) q = absurd q
+    go fits q = absurd q
+
+-- and says "fits already" exactly when the book does
+pub fits-exactly : (r : Reply) (s : BookReply) → RepliesAgree r s → (r ≡ fitsAlready) ↔ (s ≡ fits)
+fits-exactly r s e = (
+  λ p. go s (subst (λ x. RepliesAgree x s) p e),
+  λ p. fits-alike r (subst (RepliesAgree r) p e),
+)
+  where
+    go : (s : BookReply) → RepliesAgree fitsAlready s → s ≡ fits
+    go fits q = refl
+    go (refuses m) q = absurd q
+    go (answers m) q = absurd q
+    go anyNumber q = absurd q
+    go (inAnyOrder m) q = absurd q
+
+-- the whole output is the book's where its order is
+output-alike : (s : BookReply) (x y : List ℕ) → Ordered s → OutputsAgree s x y → x ≡ y
+output-alike (refuses m) x y h e = e
+output-alike (answers m) x y h e = e
+output-alike anyNumber x y h e = e
+output-alike (inAnyOrder m) x y h e = absurd h
+output-alike fits x y h e = e
+
+-- so the whole output of every call but `which` is the book's
+pub output-but-which : (c : Call) (b : Book) (out : List ℕ) → OutputsAgree (inBook c b .reply) out (inBook c b .output)
+    → (Asking c → ⊥) → out ≡ inBook c b .output
+output-but-which c b out a other = go (ordered-or-which c b)
+  where
+    go : Ordered (inBook c b .reply) ⊎ Asking c → out ≡ inBook c b .output
+    go (inl h) = output-alike (inBook c b .reply) out (inBook c b .output) h a
+    go (inr w) = absurd (other w)
+
+not-refused : (r : Reply) → Answered r → (n : ℕ) → r ≡ refused n → ⊥
+not-refused (refused m) a n e = absurd a
+not-refused (answered m) a n e = let z : _≡_ {A = ℕ} 0 1 = cc in omega arith
+not-refused fitsAlready a n e = let z : _≡_ {A = ℕ} 0 1 = cc in omega arith
 
 -- what alters anything is an add, a removal or a replacement that is not refused
 pub alters-only : (c : Call) (r : Reply) → Alters c r → ((n : ℕ) → r ≡ refused n → ⊥) × Changing c
-alters-only (add i bs) (answered m) a = (λ n p. (let z : _≡_ {A = ℕ} 0 1 = cc in omega arith), inl (i, bs, refl))
-alters-only (add i bs) (refused m) a = absurd a
-alters-only (remove i) (answered m) a = (λ n p. (let z : _≡_ {A = ℕ} 0 1 = cc in omega arith), inr (inl (i, refl)))
-alters-only (remove i) (refused m) a = absurd a
-alters-only (replace i bs) (answered m) a =
-    (λ n p. (let z : _≡_ {A = ℕ} 0 1 = cc in omega arith), inr (inr (i, bs, refl)))
-alters-only (replace i bs) (refused m) a = absurd a
+alters-only (add i bs) r a = (not-refused r a, inl (i, bs, refl))
+alters-only (remove i) r a = (not-refused r a, inr (inl (i, refl)))
+alters-only (replace i bs) r a = (not-refused r a, inr (inr (i, bs, refl)))
 alters-only (read i p o) r a = absurd a
 alters-only (breaks i) r a = absurd a
+alters-only (which n o) r a = absurd a
 alters-only free r a = absurd a
 alters-only check r a = absurd a
 
@@ -67,6 +117,7 @@ every-call-listed c p = record { call = c; two-bytes = go c p }
     go (replace i bs) p = tt
     go (read i q o) p = tt
     go (breaks i) p = tt
+    go (which n o) p = tt
     go free p = tt
     go check p = tt
 
@@ -90,18 +141,20 @@ claim-reaches-large w c some most cat d lc ld =
 
 -- ---- all of it, in the words of document 01
 
--- what is claimed of a call: refusals and answers are the book's, the whole output is, and a call that is refused or
--- is no add, removal or replacement leaves catalogue, disk and book
+-- what is claimed of a call: refusals, answers and "fits already" are the book's, the whole output is but for `which`,
+-- and a call that is refused or is no add, removal or replacement leaves catalogue, disk and book
 pub call-claims : (c : Call) (cat d : List ℕ) (b : Book) → CallAgrees c cat d b
     → ((n : ℕ) → (perform c cat d .reply ≡ refused n) ↔ (inBook c b .reply ≡ refuses n))
     × ((n : ℕ) → inBook c b .reply ≡ answers n → perform c cat d .reply ≡ answered n)
-    × (perform c cat d .output ≡ inBook c b .output)
+    × ((perform c cat d .reply ≡ fitsAlready) ↔ (inBook c b .reply ≡ fits))
+    × ((Asking c → ⊥) → perform c cat d .output ≡ inBook c b .output)
     × ((Changing c → (n : ℕ) × (perform c cat d .reply ≡ refused n))
     → (perform c cat d .catalogue ≡ cat) × (perform c cat d .disk ≡ d) × (inBook c b .book ≡ b))
 call-claims c cat d b a = (
   refuses-exactly (perform c cat d .reply) (inBook c b .reply) (a .reply),
   λ n e. answers-alike (perform c cat d .reply) n (subst (RepliesAgree (perform c cat d .reply)) e (a .reply)),
-  a .output,
+  fits-exactly (perform c cat d .reply) (inBook c b .reply) (a .reply),
+  output-but-which c b (perform c cat d .output) (a .output),
   λ changes. (a .catalogue-kept (kept changes), a .disk-kept (kept changes), a .book-kept (kept changes)),
 )
   where

@@ -12,15 +12,15 @@ use Rattle.manager.proofs.NumberPlaces.{listed-cases, listed-first, lis
 use Rattle.manager.proofs.NumberPlaces.{place-first}
 use Rattle.manager.specs.Conditions.{Condition, Judgement, allowed, condition, firstRefusal, refusal}
 use Rattle.manager.specs.Table.{Refusal, bufferLength, catalogueLength, diskLength, filesFull, formatDisk}
-use Rattle.manager.specs.Table.{idMissing, idThere, idZero, isListed, letterNotAbove, letterUnknown, noSpace}
-use Rattle.manager.specs.Table.{notSound, numberOf, pastEnd, placeIn}
+use Rattle.manager.specs.Table.{idMissing, idThere, idZero, isListed, letterNotAbove, letterUnknown, listLength}
+use Rattle.manager.specs.Table.{noSpace, notSound, numberOf, pastEnd, placeIn}
 
 -- the refusals by their numbers; there is none of number 0
 abbrev refusals : List Refusal
 refusals =
     catalogueLength ∷ catalogueLength ∷ formatDisk ∷ notSound ∷ diskLength ∷ idZero ∷ idMissing ∷ idThere
     ∷ bufferLength
-    ∷ pastEnd ∷ filesFull ∷ noSpace ∷ letterUnknown ∷ letterNotAbove ∷ []
+    ∷ pastEnd ∷ filesFull ∷ noSpace ∷ letterUnknown ∷ letterNotAbove ∷ listLength ∷ []
 
 numbered : (r : Refusal) → getD refusals (numberOf r) catalogueLength ≡ r
 numbered catalogueLength = refl
@@ -36,6 +36,7 @@ numbered filesFull = refl
 numbered noSpace = refl
 numbered letterUnknown = refl
 numbered letterNotAbove = refl
+numbered listLength = refl
 
 -- two refusals have two numbers
 pub number-unique : (q r : Refusal) → numberOf q ≡ numberOf r → q ≡ r

@@ -19,23 +19,24 @@ use Rattle.layout.specs.Layout.{File, Found, Layout, breaksOf, findFile, found,
 use Rattle.layout.specs.Removing.{copiesOf, removal}
 use Rattle.manager.proofs.AllHeights.{all-heights}
 use Rattle.manager.proofs.CallEquations.{addIn-is, breaksIn-is, checkIn-is, freeIn-is, readIn-is, removeIn-is}
-use Rattle.manager.proofs.CallEquations.{replaceOutcome-is}
+use Rattle.manager.proofs.CallEquations.{replaceOutcome-is, whichIn-is}
 use Rattle.manager.proofs.CallsJudged.{GivenTo, call-judged, conditionsOf}
 use Rattle.manager.proofs.CanReplace.{removal-answered}
 use Rattle.manager.proofs.Catalogues.{decides-length, read-catalogue, unread-catalogue}
 use Rattle.manager.proofs.ConditionLists.{FirstOf, Judges, NoneOf, Right}
 use Rattle.manager.proofs.Deciding.{equal-if-never-unequal}
 use Rattle.manager.proofs.NumberPlaces.{place-unique}
-use Rattle.manager.proofs.Refusals.{answered-not-refused}
-use Rattle.manager.specs.Call.{Call, add, breaks, check, free, read, remove, replace}
+use Rattle.manager.proofs.Refusals.{answered-not-refused, help-not-refused}
+use Rattle.manager.specs.Arguments.{idOf}
+use Rattle.manager.specs.Call.{Call, add, breaks, check, free, read, remove, replace, which}
 use Rattle.manager.specs.Conditions.{Judgement, Outcome, Reply, addConditions, allowed, firstRefusal}
 use Rattle.manager.specs.Conditions.{readConditions, refusal, refused, removeConditions, replaceConditions}
-use Rattle.manager.specs.Conditions.{replyUnless, unlessRefused}
+use Rattle.manager.specs.Conditions.{replyUnless, unlessRefused, whichConditions}
 use Rattle.manager.specs.Disk.{pageCount}
-use Rattle.manager.specs.Outcomes.{addPieces, breaksFound, doAdd}
-use Rattle.manager.specs.Outcomes.{doBreaks, doCheck, doFree, doRead, doRemove, perform, readFound}
+use Rattle.manager.specs.Outcomes.{addPieces, breaksFound, doAdd, doBreaks, doCheck, doFree, doRead, doRemove}
+use Rattle.manager.specs.Outcomes.{doWhich, perform, readFound}
 use Rattle.manager.specs.Outcomes.{removeFound, removeOutcome, removeThenAdd}
-use Rattle.manager.specs.Table.{By, CatalogueOf, First, Refusal, catalogueLength, idMissing, idOf, noSpace}
+use Rattle.manager.specs.Table.{By, CatalogueOf, First, Refusal, catalogueLength, idMissing, noSpace}
 use Rattle.manager.specs.Table.{notSound, numberOf, numbersOf, placeIn}
 use Rattle.section.specs.Limits.{heightCount}
 
@@ -46,6 +47,7 @@ replyOf (remove i) cat d x = doRemove (versionOf cat) i cat d x .reply
 replyOf (replace i bs) cat d x = removeOutcome i cat d .reply
 replyOf (read i p o) cat d x = doRead i p o cat d x .reply
 replyOf (breaks i) cat d x = doBreaks i x
+replyOf (which n o) cat d x = doWhich n o cat d x .reply
 replyOf free cat d x = doFree x
 replyOf check cat d x = doCheck x
 
@@ -74,6 +76,10 @@ reply-is (read i p o) cat d =
     ∙ unless-reply (firstRefusal (readConditions (versionOf cat) i p o cat d)) cat d o
     (doRead i p o cat d (readCatalogue (versionOf cat) cat))
 reply-is (breaks i) cat d = breaksIn-is (versionOf cat) cat i
+reply-is (which n o) cat d =
+    ap (λ (x : Outcome). x .reply) (whichIn-is (versionOf cat) cat n o d)
+    ∙ unless-reply (firstRefusal (whichConditions (versionOf cat) n o cat)) cat d o
+    (doWhich n o cat d (readCatalogue (versionOf cat) cat))
 reply-is free cat d = freeIn-is (versionOf cat) cat
 reply-is check cat d = checkIn-is (versionOf cat) cat d
 
@@ -137,6 +143,8 @@ module _ (cat d : List ℕ) (bytes : Bytes cat) where
       layout-read (breaks i) n clear refl refl λ l h.
       file-found (breaks i) l n breaksFound clear refl h λ f.
       answered-not-refused (breaksOf (f .pieces)) n
+  answers (which n o) passed clear m =
+      layout-read (which n o) m clear refl refl λ l h. help-not-refused cat d n l m
   answers free passed clear n = layout-read free n clear refl refl λ l h. answered-not-refused (freeBlocks l) n
   answers check passed clear n = layout-read check n clear refl refl λ l h. answered-not-refused (l .blocks) n
 

@@ -14,7 +14,7 @@ use Rattle.catalogue.specs.declared.Version.{Version}
 use Rattle.layout.specs.Layout.{freshLayout}
 use Rattle.manager.proofs.CallEquations.{formatIn-is}
 use Rattle.manager.proofs.Contents.{paged-length}
-use Rattle.manager.proofs.Steps.{answered-same, refused-answered}
+use Rattle.manager.proofs.Replies.{answered-same, refused-answered}
 use Rattle.manager.specs.Conditions.{Outcome, answered, condition, firstRefusal, outcome, unlessRefused, unpaged}
 use Rattle.manager.specs.Disk.{pageCount}
 use Rattle.manager.specs.Outcomes.{formatOutcome}

@@ -1,5 +1,5 @@
--- Lists of conditions: when a call is allowed, and by what it is refused. Assumes nothing.
-use mathlib.Core.Bool.{Bool, false, true}
+-- Lists of conditions: when a call is allowed, and by what it is refused; and a choice of two. Assumes nothing.
+use mathlib.Core.Bool.{Bool, cond, false, true}
 use mathlib.Core.List.{List, [], _∷_}
 use mathlib.Core.Path.{_∙_, _≡_, ap, refl}
 use Prim.Native.Nat.{ℕ}
@@ -40,6 +40,11 @@ allowed-none (c ∷ cs) e = go (c .applies) refl e (λ q. allowed-none cs q)
         → Each (λ (c : Condition). c .applies ≡ false) (c ∷ cs)
     go true p q k = absurd (let z : _≡_ {A = ℕ} 0 1 = cc in omega arith)
     go false p q k = more {a = c} p (k q)
+
+-- what both sides of a choice have, the choice has
+pub either-side : {A : Type 0} (P : A → Type 0) (b : Bool) (x y : A) → P x → P y → P (cond b x y)
+either-side P true x y p q = p
+either-side P false x y p q = q
 
 -- an answer shows that the call was allowed
 pub answered-allowed : (j : Judgement) (cat d o : List ℕ) (act : Outcome) (k : ℕ)

@@ -14,10 +14,14 @@ pub mod AddFromSound
 pub mod RemoveFromSound
 pub mod AddAfterRemoval
 pub mod ReplaceFromSound
+pub mod Replies
+pub mod WhichCases
+pub mod WhichFromSound
 pub mod Standing
 pub mod Steps
 pub mod ChangeClaims
 pub mod ReplaceAgrees
+pub mod WhichAgrees
 pub mod Agreement
 pub mod ReadBack
 pub mod Refusals
@@ -32,10 +36,13 @@ pub mod FirstRefusal
 pub mod LowestRefusal
 pub mod GivenFirst
 pub mod RefusalNumbers
+pub mod OnlyWhich
 pub mod FormatRefusals
 pub mod WholeList
 pub mod FormatAnswered
 pub mod ClaimWords
+pub mod RoomInBook
+pub mod WhichWords
 pub mod LineFiles
 pub mod FormatLimits
 pub mod LiteralBuffers
@@ -44,6 +51,7 @@ pub mod LiteralAnswers
 pub mod LiteralReplacing
 pub mod LiteralCases
 pub mod LiteralReplacements
+pub mod LiteralWhich
 pub mod BookCases
 pub mod Printed
 pub mod PrintedCases

@@ -19,11 +19,12 @@ use Rattle.manager.proofs.GivenFirst.{Clear, coversBefore, gives-first}
 use Rattle.manager.proofs.LiteralBuffers.{bufferRefusals, clear-buffers}
 use Rattle.manager.proofs.ReadBack.{read-from-sound}
 use Rattle.manager.proofs.TableRows.{decides-no-file}
+use Rattle.manager.specs.Arguments.{idOf}
 use Rattle.manager.specs.Call.{Call, add, breaks, read, remove, replace}
 use Rattle.manager.specs.Changes.{Gives}
 use Rattle.manager.specs.Conditions.{Outcome, answered}
 use Rattle.manager.specs.Outcomes.{addOutcome, perform, readOutcome}
-use Rattle.manager.specs.Table.{By, CatalogueOf, NoFile, bufferLength, filesFull, idMissing, idOf, idThere}
+use Rattle.manager.specs.Table.{By, CatalogueOf, NoFile, bufferLength, filesFull, idMissing, idThere}
 use Rattle.manager.specs.Table.{idZero, noSpace, numbersOf, pastEnd}
 
 -- an id that no file has is not found

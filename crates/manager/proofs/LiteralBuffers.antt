@@ -17,7 +17,7 @@ use Rattle.manager.proofs.Catalogues.{encoded-bytes, one-layout}
 use Rattle.manager.proofs.FormatLimits.{other-length}
 use Rattle.manager.proofs.FormatRefusals.{format-lowest-refusal}
 use Rattle.manager.proofs.GivenFirst.{Clear, coversBefore, gives-first}
-use Rattle.manager.specs.Call.{Call, add, breaks, check, free, read, remove, replace}
+use Rattle.manager.specs.Call.{Call, add, breaks, check, free, read, remove, replace, which}
 use Rattle.manager.specs.Changes.{Gives}
 use Rattle.manager.specs.Conditions.{refused}
 use Rattle.manager.specs.Outcomes.{formatOutcome}
@@ -31,6 +31,7 @@ begins (remove i) = (_, refl)
 begins (replace i bs) = (_, refl)
 begins (read i p o) = (_, refl)
 begins (breaks i) = (_, refl)
+begins (which n o) = (_, refl)
 begins free = (_, refl)
 begins check = (_, refl)
 
@@ -81,7 +82,7 @@ bufferRefusals = diskLength ∷ catalogueRefusals
 
 module _ {cat : List ℕ} {l : Layout} (h : CatalogueOf cat l) (d : List ℕ) where
   -- 1 and 3 do not apply
-  clear-catalogue : (c : Call) → Clear cat d c catalogueRefusals
+  pub clear-catalogue : (c : Call) → Clear cat d c catalogueRefusals
   clear-catalogue c = more {a = notSound} (λ none. none l h) (more {a = catalogueLength} known done)
     where
       known : GivenIf catalogueLength c cat d → ⊥

@@ -1,6 +1,6 @@
 -- A list of calls on a disk of five blocks and every refusal, computed from literal bytes with the small catalogue, so
--- that the definitions are pinned within this crate; replacements are in `LiteralReplacements`. The table of all
--- cases, in both versions, is the crate `case_table`. Assumes nothing.
+-- that the definitions are pinned within this crate; replacements are in `LiteralReplacements`, and what `which` gives
+-- in `LiteralWhich`. The table of all cases, in both versions, is the crate `case_table`. Assumes nothing.
 use mathlib.Core.List.{List, [], _++_, _∷_, map}
 use mathlib.Core.Path.{_≡_, refl}
 use Prim.Native.Nat.{_-_, suc, zero, ℕ}
@@ -12,15 +12,16 @@ use Rattle.catalogue.specs.Reading.{every, fileRead, isSound, judged, pairwise,
 use Rattle.catalogue.specs.Reading.{readFrom, readHeader, readLayout, readPair, readPairs}
 use Rattle.catalogue.specs.Version.{versionFor}
 use Rattle.layout.specs.Adding.{allocate, takeFirst, takePiece}
+use Rattle.layout.specs.Helping.{candidatesOf, helpingIds}
 use Rattle.layout.specs.Layout.{blockRun, blocksOf, breaksOf, filePieces, findFile, freshLayout, inRange, piecesFrom}
 use Rattle.layout.specs.Lists.{insertBy, sortBy}
 use Rattle.layout.specs.Removing.{buddyPair, copiesFrom, copiesOf, copyRun, insertAll, layoutAfter, lowestTwo, merge}
 use Rattle.layout.specs.Removing.{mergeAll, mergePair, nextMerge, release, removal, withoutFile}
-use Rattle.manager.specs.Call.{Call, add, breaks, check, free, read, remove, replace}
+use Rattle.manager.specs.Call.{Call, add, breaks, check, free, read, remove, replace, which}
 use Rattle.manager.specs.Conditions.{Outcome, answered, firstRefusal, outcome, refused}
 use Rattle.manager.specs.Disk.{cutPages, joinPages, pagesOn, runCopies, writePages}
 use Rattle.manager.specs.Outcomes.{addIn, breaksIn, checkIn, formatIn, formatOutcome, freeIn, perform, readIn}
-use Rattle.manager.specs.Outcomes.{removeIn, replaceOutcome}
+use Rattle.manager.specs.Outcomes.{removeIn, replaceOutcome, whichIn}
 use Rattle.quality.specs.Letters.{firstLetter, rankOf}
 use Rattle.section.specs.Heights.{heightOf}
 use Rattle.section.specs.Sections.{buddyFirst, isAligned, isInside, isOnDisk, movedInto, parentFirst, sharesBlock}
@@ -33,7 +34,7 @@ unfolding onesIn ones buddyFirst parentFirst isAligned isOnDisk sharesBlock isIn
     release removal bigEndian pairBytes pairsBytes entryBytes entriesBytes headerBytes usedBytes encode every pairwise
     isSound readFrom readPair readPairs fileRead readEntry readEntries readHeader readLayout judged readCatalogue
     pagesOn cutPages joinPages writePages runCopies firstRefusal formatIn addIn removeIn readIn breaksIn freeIn
-    checkIn replaceOutcome versionFor heightOf firstLetter rankOf
+    checkIn replaceOutcome whichIn candidatesOf helpingIds versionFor heightOf firstLetter rankOf
 computed c cat d = perform c cat d
 
 -- ---- buffers
@@ -126,6 +127,7 @@ lent (remove i) = []
 lent (replace i bs) = []
 lent (read i p o) = o
 lent (breaks i) = []
+lent (which n o) = o
 lent free = []
 lent check = []
 
@@ -139,7 +141,7 @@ onDisk =
     add 3 (replicate 512 0) ∷ remove 1 ∷ replace 1 (replicate 512 82) ∷ read 65535 0 (replicate 512 0) ∷ check ∷ []
 
 abbrev plain : List Call
-plain = breaks 65535 ∷ free ∷ onDisk
+plain = breaks 65535 ∷ which 2 (replicate 64 7) ∷ free ∷ onDisk
 
 abbrev zeros : List Call
 zeros = add 0 [] ∷ remove 0 ∷ replace 0 [] ∷ read 0 0 [] ∷ []
@@ -148,9 +150,9 @@ zeros = add 0 [] ∷ remove 0 ∷ replace 0 [] ∷ read 0 0 [] ∷ []
 -- blocks; and the lowest number where more than one applies
 pub buffers-refused :
     Refuses (bytes 4095 withTwo) written 1 plain × Refuses (bytes 4097 withTwo) written 1 plain
-    × Refuses (replicate 4097 255) (replicate 2559 0) 1 zeros
+    × Refuses (replicate 4097 255) (replicate 2559 0) 1 (which 0 [] ∷ zeros)
     × Refuses (bytes 4095 withTwo ++ 1 ∷ []) written 3 plain
-    × Refuses (bytes 4095 withTwo ++ 1 ∷ []) (replicate 2559 0) 3 zeros
+    × Refuses (bytes 4095 withTwo ++ 1 ∷ []) (replicate 2559 0) 3 (which 0 [] ∷ zeros)
     × Refuses (bytes 4096 withTwo) (replicate 2559 0) 4 onDisk
     × Refuses (bytes 4096 withTwo) (replicate 2561 0) 4 onDisk
     × Refuses (bytes 4096 withTwo) (replicate 2561 0) 4 zeros

@@ -9,7 +9,7 @@ use native.Mathlib.Omega.{arith}
 use Rattle.catalogue.specs.Encoding.{Bytes}
 use Rattle.manager.proofs.FirstRefusal.{first-refusal}
 use Rattle.manager.proofs.NumberPlaces.{before-lower, lower-before}
-use Rattle.manager.specs.Call.{Call, add, breaks, check, free, read, remove, replace}
+use Rattle.manager.specs.Call.{Call, add, breaks, check, free, read, remove, replace, which}
 use Rattle.manager.specs.Conditions.{refused}
 use Rattle.manager.specs.Outcomes.{perform}
 use Rattle.manager.specs.Table.{First, InNumberOrder, Lowest, Refusal, numberOf, numbersOf}
@@ -21,6 +21,7 @@ in-number-order (remove i) other = refl
 in-number-order (replace i bs) other = absurd (other i bs refl)
 in-number-order (read i p o) other = refl
 in-number-order (breaks i) other = refl
+in-number-order (which n o) other = refl
 in-number-order free other = refl
 in-number-order check other = refl
 

@@ -37,6 +37,18 @@ listed-later n m ns e = go (eqb n m)
     go true = refl
     go false = e
 
+-- n is one of these numbers
+abbrev pub Among : ℕ → List ℕ → Type 0
+Among n [] = ⊥
+Among n (m ∷ ns) = (n ≡ m) ⊎ Among n ns
+
+pub listed-among : (n : ℕ) (ns : List ℕ) → isListed n ns ≡ true → Among n ns
+listed-among n [] e = none-listed n e
+listed-among n (m ∷ ns) e = elim (listed-cases n m ns e) [
+  | inl q ↦ inl q
+  | inr w ↦ inr (listed-among n ns (w .1))
+]
+
 -- ---- places
 
 pub place-first : (n m : ℕ) (ns : List ℕ) → n ≡ m → placeIn (m ∷ ns) n ≡ 0

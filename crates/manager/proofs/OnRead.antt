@@ -14,14 +14,15 @@ use Rattle.layout.specs.Adding.{allocate}
 use Rattle.layout.specs.Layout.{Layout, findFile, freeBlocks}
 use Rattle.layout.specs.Moves.{right}
 use Rattle.manager.proofs.CallEquations.{addIn-is, breaksIn-is, checkIn-is, freeIn-is, readIn-is, removeIn-is}
-use Rattle.manager.proofs.CallEquations.{replaceOutcome-is}
+use Rattle.manager.proofs.CallEquations.{replaceOutcome-is, whichIn-is}
 use Rattle.manager.specs.Conditions.{Condition, addChecks, allowed, answered, condition, fileChecks, firstRefusal}
 use Rattle.manager.specs.Conditions.{onLayout, outcome, readChecks, refusal, refused, replaceChecks, replyUnless}
-use Rattle.manager.specs.Conditions.{unlessRefused, wrongCatalogue, wrongDisk}
+use Rattle.manager.specs.Conditions.{unlessRefused, whichChecks, wrongCatalogue, wrongDisk}
 use Rattle.manager.specs.Disk.{pageCount}
 use Rattle.manager.specs.Outcomes.{addIn, addPieces, breaksFound, breaksIn, checkIn, doAdd}
-use Rattle.manager.specs.Outcomes.{doBreaks, doCheck, doFree, doRead, doRemove, freeIn, readFound}
-use Rattle.manager.specs.Outcomes.{readIn, removeFound, removeIn, removeThenAdd, replaceOutcome}
+use Rattle.manager.specs.Outcomes.{doBreaks, doCheck, doFree, doRead, doRemove, doWhich, freeIn, helpFor}
+use Rattle.manager.specs.Outcomes.{readFound, readIn, removeFound, removeIn, removeThenAdd, replaceOutcome}
+use Rattle.manager.specs.Outcomes.{whichIn}
 use Rattle.section.specs.Limits.{heightCount}
 
 -- ---- a catalogue from which the layout l is read
@@ -47,6 +48,12 @@ module _ (v : Version) (cat : List ℕ) (l : Layout) (lc : length cat ≡ v .byt
   free-on-read = freeIn-is v cat ∙ ap₂ (λ j x. replyUnless j (doFree x)) (past-catalogue (λ l. [])) rd
 
   -- whatever the disk
+  pub which-on-read : (n : ℕ) (o d : List ℕ)
+      → whichIn v n o cat d ≡ unlessRefused (firstRefusal (whichChecks n o)) cat d o (helpFor n cat d l)
+  which-on-read n o d =
+      whichIn-is v cat n o d
+      ∙ ap₂ (λ j x. unlessRefused j cat d o (doWhich n o cat d x)) (past-catalogue (λ m. whichChecks n o)) rd
+
   pub add-on-read : (i : ℕ) (bs d : List ℕ)
       → addIn v i bs cat d
       ≡ unlessRefused (firstRefusal (condition 4 (wrongDisk l d) ∷ addChecks i bs l)) cat d []
@@ -148,6 +155,11 @@ module _ (v : Version) (cat : List ℕ) (n : ℕ)
   pub breaks-refused : (i : ℕ) → breaksIn v i cat ≡ refused n
   breaks-refused i =
       breaksIn-is v cat i ∙ ap (λ j. replyUnless j (doBreaks i (readCatalogue v cat))) (shut (fileChecks i))
+
+  pub which-refused : (m : ℕ) (o d : List ℕ) → whichIn v m o cat d ≡ outcome (refused n) cat d o
+  which-refused m o d =
+      whichIn-is v cat m o d
+      ∙ ap (λ j. unlessRefused j cat d o (doWhich m o cat d (readCatalogue v cat))) (shut (λ l. whichChecks m o))
 
   pub free-refused : freeIn v cat ≡ refused n
   free-refused = freeIn-is v cat ∙ ap (λ j. replyUnless j (doFree (readCatalogue v cat))) (shut (λ l. []))

@@ -16,17 +16,18 @@ use Rattle.layout.specs.Layout.{Layout, findFile, freeBlocks}
 use Rattle.layout.specs.Sound.{Sound}
 use Rattle.manager.proofs.Judging.{passes}
 use Rattle.manager.proofs.OnRead.{add-on-read, breaks-on-read, check-on-read, free-on-read, read-on-read}
-use Rattle.manager.proofs.OnRead.{remove-on-read, replace-on-read}
+use Rattle.manager.proofs.OnRead.{remove-on-read, replace-on-read, which-on-read}
 use Rattle.manager.specs.Conditions.{Condition, addChecks, answered, condition, fileChecks, firstRefusal}
-use Rattle.manager.specs.Conditions.{readChecks, replaceChecks, replyUnless, unlessRefused, wrongDisk}
+use Rattle.manager.specs.Conditions.{readChecks, replaceChecks, replyUnless, unlessRefused, whichChecks}
+use Rattle.manager.specs.Conditions.{wrongDisk}
 use Rattle.manager.specs.Disk.{pageCount}
 use Rattle.manager.specs.Outcomes.{addOutcome, addPieces, breaksFound, breaksReply, checkReply, freeReply}
-use Rattle.manager.specs.Outcomes.{readFound, readOutcome, removeFound, removeOutcome, removeThenAdd}
+use Rattle.manager.specs.Outcomes.{helpFor, readFound, readOutcome, removeFound, removeOutcome, removeThenAdd}
 use Rattle.manager.specs.Outcomes.{replaceOutcome}
 use Rattle.section.specs.Limits.{blockSize, heightCount}
 use Rattle.catalogue.proofs.Versions.{version-of-encoded}
 use Rattle.catalogue.specs.Version.{versionOf}
-use Rattle.manager.specs.Outcomes.{addIn, breaksIn, checkIn, freeIn, readIn, removeIn}
+use Rattle.manager.specs.Outcomes.{addIn, breaksIn, checkIn, freeIn, readIn, removeIn, whichIn}
 
 module _ (v : Version) (room : Roomy v) (l : Layout) (s : Sound (v .heights) l) where
   lc : length (encode v l) ≡ v .bytes
@@ -46,6 +47,13 @@ module _ (v : Version) (room : Roomy v) (l : Layout) (s : Sound (v .heights) l) 
 
   pub free-on-sound : freeReply (encode v l) ≡ answered (freeBlocks l)
   free-on-sound = ap (λ u. freeIn u (encode v l)) pick ∙ free-on-read v (encode v l) l lc rd
+
+  -- `which`, whatever the disk
+  pub which-on-sound : (n : ℕ) (o d : List ℕ)
+      → whichIn (versionOf (encode v l)) n o (encode v l) d
+      ≡ unlessRefused (firstRefusal (whichChecks n o)) (encode v l) d o (helpFor n (encode v l) d l)
+  which-on-sound n o d =
+      ap (λ u. whichIn u n o (encode v l) d) pick ∙ which-on-read v (encode v l) l lc rd n o d
 
   -- a removal, whatever the disk
   pub remove-on-catalogue : (i : ℕ) (d : List ℕ)

@@ -1,4 +1,4 @@
--- The number of a refusal is one of 1 to 13, whatever the bytes, for every call and for the book. Assumes nothing.
+-- The number of a refusal is one of 1 to 14, whatever the bytes, for every call and for the book. Assumes nothing.
 use mathlib.Core.Bool.{Bool, _&&_, cond, false, not, true}
 use mathlib.Core.List.{List, [], _∷_}
 use mathlib.Core.Path.{_≡_, refl, subst, sym}
@@ -9,31 +9,34 @@ use borrow.Author.Tests.{leb-true}
 use Rattle.catalogue.specs.Reading.{Reading, readCatalogue, sound, unsound}
 use Rattle.catalogue.specs.Version.{versionOf}
 use Rattle.layout.specs.Adding.{Allocated, allocate, allocated, tooFew}
-use Rattle.layout.specs.Layout.{Found, Layout, findFile, found, missing}
+use Rattle.layout.specs.Layout.{Found, Layout, findFile, found, freeBlocks, missing}
 use Rattle.manager.proofs.CallsJudged.{conditionsOf}
 use Rattle.manager.proofs.FirstRefusal.{reply-is, replyOf}
+use Rattle.manager.proofs.Judging.{either-side}
 use Rattle.manager.specs.Book.{Book, BookReply, BookStep, LineFound, answers, anyNumber, bookFree, bookPages}
-use Rattle.manager.specs.Book.{bookRank, bookReadLine, bookReplaceLine, contentPages, inBook, isWhole, line}
-use Rattle.manager.specs.Book.{lineWith, mostLines, noLine, noted, refuses}
-use Rattle.manager.specs.Call.{Call, add, breaks, check, free, read, remove, replace}
-use Rattle.manager.specs.Conditions.{Condition, Reply, answered, condition, firstRefusal, onLayout, refused}
-use Rattle.manager.specs.Conditions.{replyUnless}
+use Rattle.manager.specs.Book.{bookReadLine, bookReplaceLine, contentPages, fits, inAnyOrder, inBook, isWhole}
+use Rattle.manager.specs.Book.{line, lineWith, mostLines, noLine, noted, refuses}
+use Rattle.manager.specs.BookLetters.{bookRank}
+use Rattle.manager.specs.Call.{Call, add, breaks, check, free, read, remove, replace, which}
+use Rattle.manager.specs.Conditions.{Condition, Outcome, Reply, answered, condition, firstRefusal, fitsAlready}
+use Rattle.manager.specs.Conditions.{onLayout, refused, replyUnless}
 use Rattle.manager.specs.Disk.{pageCount}
 use Rattle.manager.specs.Outcomes.{addPieces, breaksFound, doRemove, perform, readFound, removeFound}
 use Rattle.section.proofs.Booleans.{and-true}
 use Rattle.section.specs.Limits.{heightCount}
 
 abbrev isNumber : ℕ → Bool
-isNumber n = leb 1 n && leb n 13
+isNumber n = leb 1 n && leb n 14
 
-one-to-thirteen : (n : ℕ) → isNumber n ≡ true → (1 ≤ n) × (n ≤ 13)
-one-to-thirteen n e =
-    let both = and-true (leb 1 n) (leb n 13) e in (leb-true 1 n (both .0), leb-true n 13 (both .1))
+one-to-fourteen : (n : ℕ) → isNumber n ≡ true → (1 ≤ n) × (n ≤ 14)
+one-to-fourteen n e =
+    let both = and-true (leb 1 n) (leb n 14) e in (leb-true 1 n (both .0), leb-true n 14 (both .1))
 
 -- a reply whose refusals have such numbers
 abbrev Numbered : Reply → Type 0
 Numbered (answered n) = Unit {0}
 Numbered (refused n) = isNumber n ≡ true
+Numbered fitsAlready = Unit {0}
 
 -- ---- a call
 
@@ -66,6 +69,7 @@ conditions-numbered (remove i) cat d = on-layout (readCatalogue (versionOf cat) 
 conditions-numbered (replace i bs) cat d = on-layout (readCatalogue (versionOf cat) cat) _ λ l. refl
 conditions-numbered (read i p o) cat d = on-layout (readCatalogue (versionOf cat) cat) _ λ l. refl
 conditions-numbered (breaks i) cat d = on-layout (readCatalogue (versionOf cat) cat) _ λ l. refl
+conditions-numbered (which n o) cat d = on-layout (readCatalogue (versionOf cat) cat) _ λ l. refl
 conditions-numbered free cat d = on-layout (readCatalogue (versionOf cat) cat) _ λ l. refl
 conditions-numbered check cat d = on-layout (readCatalogue (versionOf cat) cat) _ λ l. refl
 
@@ -103,19 +107,22 @@ replies-numbered (breaks i) cat d (sound l) = go (findFile i (l .files))
     go : (x : Found) → Numbered (breaksFound x)
     go (found f) = tt
     go missing = refl
+replies-numbered (which n o) cat d (sound l) =
+    either-side (λ (x : Outcome). Numbered (x .reply)) (leb n (freeBlocks l)) _ _ tt tt
 replies-numbered free cat d (sound l) = tt
 replies-numbered check cat d (sound l) = tt
 replies-numbered (add i bs) cat d unsound = refl
 replies-numbered (read i p o) cat d unsound = refl
 replies-numbered (breaks i) cat d unsound = refl
+replies-numbered (which n o) cat d unsound = refl
 replies-numbered free cat d unsound = refl
 replies-numbered check cat d unsound = refl
 
--- a call is refused with 1 to 13, or answered
+-- a call is refused with 1 to 14, or answered
 pub refusal-numbers : (c : Call) (cat d : List ℕ) (n : ℕ) → perform c cat d .reply ≡ refused n
-    → (1 ≤ n) × (n ≤ 13)
+    → (1 ≤ n) × (n ≤ 14)
 refusal-numbers c cat d n e =
-    one-to-thirteen n
+    one-to-fourteen n
     (subst Numbered e (past-conditions c cat d (replies-numbered c cat d (readCatalogue (versionOf cat) cat))))
 
 -- ---- the book
@@ -124,11 +131,12 @@ abbrev BookNumbered : BookReply → Type 0
 BookNumbered (refuses n) = isNumber n ≡ true
 BookNumbered (answers n) = Unit {0}
 BookNumbered anyNumber = Unit {0}
+BookNumbered (inAnyOrder n) = Unit {0}
+BookNumbered fits = Unit {0}
 
 either : (b : Bool) (x y : BookStep) → BookNumbered (x .reply) → BookNumbered (y .reply)
     → BookNumbered (cond b x y .reply)
-either true x y p q = p
-either false x y p q = q
+either = either-side (λ (x : BookStep). BookNumbered (x .reply))
 
 book-numbered : (c : Call) (b : Book) → BookNumbered (inBook c b .reply)
 book-numbered (add i bs) b =
@@ -156,9 +164,12 @@ book-numbered (read i p o) b = either (eqb i 0) _ _ refl (go (lineWith i (b .lin
         either (not (isWhole o)) _ _ refl (either (ltb (length (x .pages)) (p + bookPages o)) _ _ refl tt)
 book-numbered (breaks i) b =
     either (eqb i 0) _ _ refl (either (not (noted (lineWith i (b .lines)))) _ _ refl tt)
+book-numbered (which n o) b =
+    either (eqb n 0) _ _ refl
+    (either (not (eqb (length o) mostLines)) _ _ refl (either (leb n (bookFree b)) _ _ tt tt))
 book-numbered free b = tt
 book-numbered check b = tt
 
--- the book refuses with 1 to 13, or answers
-pub book-refusal-numbers : (c : Call) (b : Book) (n : ℕ) → inBook c b .reply ≡ refuses n → (1 ≤ n) × (n ≤ 13)
-book-refusal-numbers c b n e = one-to-thirteen n (subst BookNumbered e (book-numbered c b))
+-- the book refuses with 1 to 14, or answers
+pub book-refusal-numbers : (c : Call) (b : Book) (n : ℕ) → inBook c b .reply ≡ refuses n → (1 ≤ n) × (n ≤ 14)
+book-refusal-numbers c b n e = one-to-fourteen n (subst BookNumbered e (book-numbered c b))

@@ -3,24 +3,29 @@ use mathlib.Core.List.{List, []}
 use mathlib.Core.Path.{_∙_, _≡_, refl, subst, sym}
 use Prim.Native.Nat.{ℕ}
 use native.Mathlib.Omega.{arith}
+use lib.Dec.{leb}
 use lib.ListN.{length}
 use Rattle.catalogue.specs.Encoding.{encode}
 use Rattle.catalogue.specs.Reading.{Reading, readCatalogue, sound, unsound}
 use Rattle.catalogue.specs.Version.{versionOf}
 use Rattle.catalogue.specs.declared.Version.{Version}
 use Rattle.layout.specs.Adding.{Allocated, allocate, allocated, tooFew}
-use Rattle.layout.specs.Layout.{Found, findFile, found, freshLayout, missing}
+use Rattle.layout.specs.Helping.{helpingIds}
+use Rattle.layout.specs.Layout.{Found, Layout, findFile, found, freeBlocks, freshLayout, missing}
 use Rattle.layout.specs.Removing.{copiesOf, removal}
 use Rattle.manager.proofs.CallEquations.{addIn-is, formatIn-is, readIn-is, removeIn-is, replaceOutcome-is}
+use Rattle.manager.proofs.CallEquations.{whichIn-is}
 use Rattle.manager.proofs.CanReplace.{removal-answered}
-use Rattle.manager.specs.Call.{Call, add, breaks, check, free, outputOf, read, remove, replace}
+use Rattle.manager.proofs.Judging.{either-side}
+use Rattle.manager.specs.Call.{Call, add, breaks, check, free, outputOf, read, remove, replace, which}
 use Rattle.manager.specs.Changes.{Unchanged}
 use Rattle.manager.specs.Conditions.{Judgement, Outcome, Reply, addConditions, allowed, answered}
-use Rattle.manager.specs.Conditions.{firstRefusal, formatConditions, outcome, readConditions, refusal}
-use Rattle.manager.specs.Conditions.{refused, removeConditions, replaceConditions, unlessRefused}
+use Rattle.manager.specs.Conditions.{firstRefusal, fitsAlready, formatConditions, outcome, readConditions}
+use Rattle.manager.specs.Conditions.{refusal, refused, removeConditions, replaceConditions, unlessRefused}
+use Rattle.manager.specs.Conditions.{whichConditions}
 use Rattle.manager.specs.Disk.{pageCount}
-use Rattle.manager.specs.Outcomes.{addPieces, breaksReply, checkReply, doAdd, doRead, doRemove}
-use Rattle.manager.specs.Outcomes.{formatOutcome, freeReply, perform, readFound}
+use Rattle.manager.specs.Outcomes.{addPieces, breaksReply, checkReply, doAdd, doRead, doRemove, doWhich}
+use Rattle.manager.specs.Outcomes.{formatOutcome, freeReply, helpFor, perform, readFound}
 use Rattle.manager.specs.Outcomes.{removeFound, removeOutcome, removeThenAdd}
 use Rattle.section.specs.Limits.{heightCount}
 
@@ -32,7 +37,17 @@ RefusedUnchanged cat d o x = (n : ℕ) → x .reply ≡ refused n → Unchanged 
 pub answered-not-refused : (m n : ℕ) → answered m ≡ refused n → ⊥
 answered-not-refused m n e = let z : _≡_ {A = ℕ} 0 1 = cc in omega arith
 
+-- nor is "fits already"
+pub fits-not-refused : (n : ℕ) → fitsAlready ≡ refused n → ⊥
+fits-not-refused n e = let z : _≡_ {A = ℕ} 0 1 = cc in omega arith
+
 module _ (cat d : List ℕ) where
+  -- so that `which` is never refused on a layout
+  pub help-not-refused : (n : ℕ) (l : Layout) (m : ℕ) → helpFor n cat d l .reply ≡ refused m → ⊥
+  help-not-refused n l m =
+      either-side (λ (x : Outcome). x .reply ≡ refused m → ⊥) (leb n (freeBlocks l)) _ _ (fits-not-refused m)
+      (answered-not-refused (length (helpingIds heightCount n l)) m)
+
   same-buffers : (r : Reply) (o : List ℕ) → Unchanged cat d o (outcome r cat d o)
   same-buffers r o = record { catalogue = refl; disk = refl; output = refl }
 
@@ -74,6 +89,10 @@ module _ (cat d : List ℕ) where
       go missing n e = same-buffers (refused 6) o
   read-unchanged i p o unsound = λ n e. same-buffers (refused 3) o
 
+  which-unchanged : (n : ℕ) (o : List ℕ) (x : Reading) → RefusedUnchanged cat d o (doWhich n o cat d x)
+  which-unchanged n o (sound l) = λ m e. absurd (help-not-refused n l m e)
+  which-unchanged n o unsound = λ m e. same-buffers (refused 3) o
+
 -- a call of a list that is refused changes no buffer
 pub refused-changes-nothing : (c : Call) (cat d : List ℕ) (n : ℕ)
     → perform c cat d .reply ≡ refused n
@@ -98,6 +117,11 @@ refused-changes-nothing (read i p o) cat d =
     (doRead i p o cat d (readCatalogue (versionOf cat) cat))
     (read-unchanged cat d i p o (readCatalogue (versionOf cat) cat)))
 refused-changes-nothing (breaks i) cat d = λ n e. same-buffers cat d (breaksReply i cat) []
+refused-changes-nothing (which n o) cat d =
+    subst (RefusedUnchanged cat d o) (sym (whichIn-is (versionOf cat) cat n o d))
+    (unless-unchanged cat d o (firstRefusal (whichConditions (versionOf cat) n o cat))
+    (doWhich n o cat d (readCatalogue (versionOf cat) cat))
+    (which-unchanged cat d n o (readCatalogue (versionOf cat) cat)))
 refused-changes-nothing free cat d = λ n e. same-buffers cat d (freeReply cat) []
 refused-changes-nothing check cat d = λ n e. same-buffers cat d (checkReply cat d) []
 

@@ -20,8 +20,10 @@ use Rattle.manager.proofs.ReplaceFromSound.{replaces}
 use Rattle.manager.proofs.Standing.{book-free, bookOn}
 use Rattle.manager.proofs.ChangeClaims.{replace-claim}
 use Rattle.manager.proofs.Steps.{StepClaim, refused-claim}
-use Rattle.manager.specs.Book.{Book, BookStep, anyNumber, bookFree, bookPages, bookRank, bookRefuses}
-use Rattle.manager.specs.Book.{bookReplace, bookReplaceLine, contentPages, countedFrom, letterOn}
+use Rattle.manager.specs.Book.{Book, BookStep, anyNumber, bookFree, bookPages, bookRefuses}
+use Rattle.manager.specs.BookLetters.{bookRank}
+use Rattle.manager.specs.Book.{bookReplace, bookReplaceLine, contentPages}
+use Rattle.manager.specs.BookLetters.{countedFrom, letterOn}
 use Rattle.manager.specs.Book.{strikeLine, writeLine}
 use Rattle.manager.specs.Call.{replace}
 use Rattle.manager.specs.Conditions.{Outcome, condition, firstRefusal, notAbove, tooLong, unlessRefused}

@@ -1,25 +1,28 @@
 -- Each call agrees with the book and leaves what stood before it or what the book writes. Assumes nothing.
 use mathlib.Core.List.{List}
-use mathlib.Core.Path.{_∙_, _≡_, ap, refl, sym}
-use Prim.Native.Nat.{_*_, _≤_, ℕ}
-use native.Mathlib.Omega.{arith}
-use lib.ListN.{length}
+use mathlib.Core.Path.{_∙_, _≡_, ap, refl, subst, sym}
+use Prim.Native.Nat.{_*_, _-_, _≤_, ℕ}
+use lib.ListN.{drop, length, replicate, take}
 use Rattle.catalogue.specs.Encoding.{encode}
 use Rattle.catalogue.specs.Roomy.{Roomy}
 use Rattle.catalogue.specs.declared.Version.{Version}
 use Rattle.layout.specs.Carries.{carries}
+use Rattle.layout.specs.Helping.{InCopyOrder}
 use Rattle.layout.specs.Layout.{File, Layout, breaksOf, findFile, found}
 use Rattle.layout.specs.Removing.{copiesOf, removal}
 use Rattle.layout.specs.Sound.{Sound}
+use Rattle.manager.proofs.Replies.{refused-answered}
 use Rattle.manager.proofs.Standing.{Standing, bookOn}
+use Rattle.manager.proofs.WhichCases.{zeros-behind}
+use Rattle.manager.proofs.WhichFromSound.{ids-in-order}
 use Rattle.manager.specs.Book.{Book, BookReply, BookStep, Line, bookFree}
 use Rattle.manager.specs.Book.{bookRefuses, inBook, line, lineWith}
 use Rattle.manager.specs.Call.{Call, breaks, outputOf}
-use Rattle.manager.specs.Conditions.{Outcome, answered, outcome, refused}
+use Rattle.manager.specs.Conditions.{Outcome, Reply, answered, outcome, refused}
 use Rattle.manager.specs.Outcomes.{perform}
 use Rattle.manager.specs.Table.{CatalogueOf}
-use Rattle.manager.specs.WholeList.{Alters, CallAgrees, RepliesAgree, Strikes}
-use Rattle.section.specs.Limits.{blockSize, heightCount}
+use Rattle.manager.specs.WholeList.{Alters, CallAgrees, OutputsAgree, RepliesAgree, Strikes}
+use Rattle.section.specs.Limits.{blockSize, heightCount, mostFiles}
 use Rattle.catalogue.proofs.Roomy.{roomy}
 use Rattle.catalogue.proofs.Versions.{encoded-once}
 
@@ -27,7 +30,7 @@ use Rattle.catalogue.proofs.Versions.{encoded-once}
 pub record StepClaim (v : Version) (c : Call) (cat d : List ℕ) (b : Book) (o : Outcome)
     (s : BookStep) : Type 0 where
   pub reply : RepliesAgree (o .reply) (s .reply)
-  pub output : o .output ≡ s .output
+  pub output : OutputsAgree (s .reply) (o .output) (s .output)
   pub catalogue-kept : (Alters c (o .reply) → ⊥) → o .catalogue ≡ cat
   pub disk-kept : (Alters c (o .reply) → ⊥) → o .disk ≡ d
   pub book-kept : (Alters c (o .reply) → ⊥) → s .book ≡ b
@@ -51,13 +54,15 @@ claim-agrees v c cat d b s = record {
   copies = s .copies;
   limit = s .limit;
   breaks-answer = s .breaks-answer;
+  which-order =
+      λ n k o l e r w.
+      subst (λ x. InCopyOrder heightCount l (take k (perform x cat d .output))) (sym e)
+      (ids-in-order n o cat d l w k (subst (λ x. perform x cat d .reply ≡ answered k) e r));
+  which-zeros =
+      λ n k o e r.
+      subst (λ x. drop k (perform x cat d .output) ≡ replicate (mostFiles - k) 0) (sym e)
+      (zeros-behind n o cat d k (subst (λ x. perform x cat d .reply ≡ answered k) e r));
 }
-
-pub refused-answered : (n k : ℕ) → refused n ≡ answered k → ⊥
-refused-answered n k e = let z : _≡_ {A = ℕ} 0 1 = cc in omega arith
-
-pub answered-same : (n k : ℕ) → answered n ≡ answered k → n ≡ k
-answered-same n k e = cc
 
 module _ (v : Version) (room : Roomy v) (l : Layout) (s : Sound (v .heights) l) (d : List ℕ)
     (ld : length d ≡ blockSize * l .blocks) where
@@ -97,15 +102,15 @@ module _ (v : Version) (room : Roomy v) (l : Layout) (s : Sound (v .heights) l) 
     standing = stands;
   }
 
-  -- an answer that alters nothing
-  pub answered-claim : (c : Call) (n : ℕ) (r : BookReply) (o : List ℕ) → RepliesAgree (answered n) r
+  -- a reply of a call that alters nothing
+  pub kept-claim : (c : Call) (x : Reply) (r : BookReply) (o p : List ℕ) → RepliesAgree x r → OutputsAgree r o p
       → ((i : ℕ) → Strikes i c → ⊥)
-      → ((i k : ℕ) (m : Layout) (f : File) → c ≡ breaks i → answered n ≡ answered k → CatalogueOf cat m
+      → ((i k : ℕ) (m : Layout) (f : File) → c ≡ breaks i → x ≡ answered k → CatalogueOf cat m
       → findFile i (m .files) ≡ found f → k ≡ breaksOf (f .pieces))
-      → StepClaim v c cat d b (outcome (answered n) cat d o) (record { reply = r; book = b; output = o })
-  answered-claim c n r o agree notStruck breaks-is = record {
+      → StepClaim v c cat d b (outcome x cat d o) (record { reply = r; book = b; output = p })
+  kept-claim c x r o p agree same notStruck breaks-is = record {
     reply = agree;
-    output = refl;
+    output = same;
     catalogue-kept = λ _. refl;
     disk-kept = λ _. refl;
     book-kept = λ _. refl;

@@ -1,7 +1,6 @@
 -- Each condition of a call decides its row of the table. Assumes nothing.
 use mathlib.Core.Bool.{Bool, false, not, true}
 use mathlib.Core.List.{List}
-use mathlib.Core.Logic.{_⊎_}
 use mathlib.Core.Path.{_≡_, refl, subst, sym}
 use Prim.Native.Nat.{_%_, _*_, _+_, _<_, _≤_, ℕ}
 use native.Mathlib.Omega.{arith}
@@ -14,10 +13,11 @@ use Rattle.layout.specs.Layout.{missing}
 use Rattle.manager.proofs.Catalogues.{one-layout}
 use Rattle.manager.proofs.Deciding.{Decides, decides-at-most, decides-below, decides-equal, decides-false}
 use Rattle.manager.proofs.Deciding.{decides-not, decides-opposite, decides-or, decides-same}
+use Rattle.manager.specs.Arguments.{Unpaged, bufferOf}
 use Rattle.manager.specs.Call.{Call}
 use Rattle.manager.specs.Conditions.{beyond, notAbove, tooLong, unpaged, wrongDisk}
 use Rattle.manager.specs.Disk.{cutPages, pageCount, pagesOn}
-use Rattle.manager.specs.Table.{CatalogueOf, NoFile, blocksFound, bufferOf, firstRank, spaceFor}
+use Rattle.manager.specs.Table.{CatalogueOf, NoFile, blocksFound, firstRank, spaceFor}
 use Rattle.section.specs.Limits.{blockSize, mostFiles}
 
 -- a file is found exactly if not every file has another id
@@ -40,7 +40,7 @@ decides-found P t each none missing =
     (decides-false λ w. let e = w .1 in let z : _≡_ {A = ℕ} 0 1 = cc in omega arith)
 
 -- a content or an output that is empty or no multiple of a block
-pub decides-unpaged : (bs : List ℕ) → Decides ((length bs ≡ 0) ⊎ (length bs % blockSize ≡ 0 → ⊥)) (unpaged bs)
+pub decides-unpaged : (bs : List ℕ) → Decides (Unpaged bs) (unpaged bs)
 decides-unpaged bs =
     decides-or (decides-equal (length bs) 0) (decides-not (decides-equal (length bs % blockSize) 0))
 

@@ -1,19 +1,25 @@
--- What a call leaves of the buffers that it never writes, whatever it is called with: a read leaves catalogue and
--- disk, format the disk, and format, add, remove and replace have no output. Assumes nothing.
+-- What a call leaves of the buffers that it never writes, whatever it is called with: a read and `which` leave
+-- catalogue and disk, format the disk, and format, add, remove and replace have no output; and `which` gives the same
+-- whatever the disk. Assumes nothing.
+use mathlib.Core.Bool.{Bool, cond, false, true}
 use mathlib.Core.List.{List, []}
-use mathlib.Core.Path.{_≡_, refl, subst, sym}
+use mathlib.Core.Path.{_∙_, _≡_, ap, refl, subst, sym}
 use Prim.Native.Nat.{ℕ}
+use lib.Dec.{leb}
 use Rattle.catalogue.specs.Reading.{Reading, readCatalogue, sound, unsound}
 use Rattle.catalogue.specs.Version.{versionOf}
 use Rattle.layout.specs.Adding.{Allocated, allocate, allocated, tooFew}
-use Rattle.layout.specs.Layout.{Found, findFile, found, missing}
+use Rattle.layout.specs.Layout.{Found, findFile, found, freeBlocks, missing}
 use Rattle.manager.proofs.CallEquations.{addIn-is, formatIn-is, readIn-is, removeIn-is, replaceOutcome-is}
-use Rattle.manager.specs.Conditions.{Judgement, Outcome, addConditions, allowed, firstRefusal, formatConditions}
-use Rattle.manager.specs.Conditions.{readConditions, refusal, removeConditions, replaceConditions, unlessRefused}
+use Rattle.manager.proofs.CallEquations.{whichIn-is}
+use Rattle.manager.proofs.Judging.{either-side}
+use Rattle.manager.specs.Conditions.{Judgement, Outcome, Reply, addConditions, allowed, firstRefusal}
+use Rattle.manager.specs.Conditions.{formatConditions, outcome, readConditions, refusal, removeConditions}
+use Rattle.manager.specs.Conditions.{replaceConditions, unlessRefused, whichConditions}
 use Rattle.manager.specs.Disk.{pageCount}
-use Rattle.manager.specs.Outcomes.{addOutcome, addPieces, doAdd, doRead, doRemove}
+use Rattle.manager.specs.Outcomes.{addOutcome, addPieces, doAdd, doRead, doRemove, doWhich}
 use Rattle.manager.specs.Outcomes.{formatOutcome, readFound, readOutcome, removeFound}
-use Rattle.manager.specs.Outcomes.{removeOutcome, removeThenAdd, replaceOutcome}
+use Rattle.manager.specs.Outcomes.{removeOutcome, removeThenAdd, replaceOutcome, whichIn, whichOutcome}
 use Rattle.section.specs.Limits.{heightCount}
 
 -- refused calls keep all, so what the call does decides
@@ -42,6 +48,40 @@ read-keeps i p o cat d =
     reading : (x : Reading) → Keeps cat d (doRead i p o cat d x)
     reading (sound l) = file (findFile i (l .files))
     reading unsound = (refl, refl)
+
+-- `which` takes no disk: whatever one there is
+pub which-keeps : (n : ℕ) (o cat d : List ℕ)
+    → (whichIn (versionOf cat) n o cat d .catalogue ≡ cat) × (whichIn (versionOf cat) n o cat d .disk ≡ d)
+which-keeps n o cat d =
+    subst (Keeps cat d) (sym (whichIn-is (versionOf cat) cat n o d))
+    (unless-all (Keeps cat d) (firstRefusal (whichConditions (versionOf cat) n o cat)) cat d o _ (λ m. (refl, refl))
+    (reading (readCatalogue (versionOf cat) cat)))
+  where
+    reading : (x : Reading) → Keeps cat d (doWhich n o cat d x)
+    reading (sound l) = either-side (Keeps cat d) (leb n (freeBlocks l)) _ _ (refl, refl) (refl, refl)
+    reading unsound = (refl, refl)
+
+-- and so it gives on any disk what it gives without one
+pub which-without-disk : (n : ℕ) (o cat d : List ℕ)
+    → whichIn (versionOf cat) n o cat d ≡ outcome (whichOutcome n o cat .reply) cat d (whichOutcome n o cat .output)
+which-without-disk n o cat d =
+    whichIn-is (versionOf cat) cat n o d
+    ∙ (go (firstRefusal (whichConditions (versionOf cat) n o cat)) (readCatalogue (versionOf cat) cat)
+    ∙ ap onDisk (sym (whichIn-is (versionOf cat) cat n o [])))
+  where
+    onDisk : Outcome → Outcome
+    onDisk x = outcome (x .reply) cat d (x .output)
+
+    either : (b : Bool) (r s : Reply) (y z : List ℕ)
+        → cond b (outcome r cat d y) (outcome s cat d z) ≡ onDisk (cond b (outcome r cat [] y) (outcome s cat [] z))
+    either true r s y z = refl
+    either false r s y z = refl
+
+    go : (j : Judgement) (x : Reading)
+        → unlessRefused j cat d o (doWhich n o cat d x) ≡ onDisk (unlessRefused j cat [] o (doWhich n o cat [] x))
+    go (refusal m) x = refl
+    go allowed unsound = refl
+    go allowed (sound l) = either (leb n (freeBlocks l)) _ _ _ _
 
 pub format-keeps-disk : (cat d : List ℕ) → formatOutcome cat d .disk ≡ d
 format-keeps-disk cat d =

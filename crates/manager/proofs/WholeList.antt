@@ -28,10 +28,12 @@ use Rattle.manager.proofs.CanReplace.{replace-answers-removal}
 use Rattle.manager.proofs.Contents.{length-paged}
 use Rattle.manager.proofs.Judging.{none-applies}
 use Rattle.manager.proofs.OnSound.{remove-on-catalogue}
+use Rattle.manager.proofs.Replies.{answered-same, refused-answered}
 use Rattle.manager.proofs.Standing.{Standing, standing-afterwards}
-use Rattle.manager.proofs.Steps.{StepClaim, answered-same, claim-agrees, refused-answered}
+use Rattle.manager.proofs.Steps.{StepClaim, claim-agrees}
 use Rattle.manager.specs.Book.{Book, freshBook, inBook}
 use Rattle.manager.specs.Call.{Call, ListedCall, TwoByteId, add, breaks, check, free, read, remove, replace}
+use Rattle.manager.specs.Call.{which}
 use Rattle.manager.specs.Conditions.{Outcome, allowed, answered, condition, firstRefusal, formatConditions}
 use Rattle.manager.specs.Conditions.{noDisk, outcome, unlessRefused, wrongCatalogue, wrongDisk}
 use Rattle.manager.specs.Disk.{pageCount}
@@ -144,6 +146,7 @@ copies-limit (replace j bs) cat d l i k f t w e r =
     (ap (λ z. removeOutcome z cat d .reply) t ∙ replace-answers-removal j bs cat d k r)
 copies-limit (read j p o) cat d l i k f t w e r = absurd t
 copies-limit (breaks j) cat d l i k f t w e r = absurd t
+copies-limit (which n o) cat d l i k f t w e r = absurd t
 copies-limit free cat d l i k f t w e r = absurd t
 copies-limit check cat d l i k f t w e r = absurd t
 

@@ -1,12 +1,13 @@
--- The plain book of document 01, with W1's replacement. It sees C and the arguments of the calls, and never a
--- catalogue, a block or an answer: what it shares with the manager is lists, numbers and the calls' arguments.
+-- The plain book of document 01, with W1's replacement and W4's `which`. It sees C and the arguments of the calls, and
+-- never a catalogue, a block or an answer: what it shares with the manager is lists, numbers and the calls' arguments.
 -- Definitions only.
 use mathlib.Core.Bool.{Bool, _&&_, cond, false, not, true}
 use mathlib.Core.List.{List, [], _++_, _∷_, map}
 use Prim.Native.Nat.{_*_, _+_, _-_, _/_, suc, zero, ℕ}
 use lib.Dec.{eqb, leb, ltb}
-use lib.ListN.{drop, getD, length, take}
-use Rattle.manager.specs.Call.{Call, add, breaks, check, free, read, remove, replace}
+use lib.ListN.{drop, length, replicate, take}
+use Rattle.manager.specs.BookLetters.{bookRank}
+use Rattle.manager.specs.Call.{Call, add, breaks, check, free, read, remove, replace, which}
 
 -- a line: an id and its pages in order
 pub record Line : Type 0 where
@@ -78,33 +79,16 @@ unfoldable pub strikeLine : ℕ → List Line → List Line
 strikeLine i [] = []
 strikeLine i (x ∷ l) = elim (eqb (x .id) i) as (λ _. List Line) [ true ↦ l | false ↦ x ∷ strikeLine i l ]
 
--- ---- its quality letters
-
--- R, D, Q, M, lowest rank first
-abbrev pub ranked : List ℕ
-ranked = 0x52 ∷ 0x44 ∷ 0x51 ∷ 0x4d ∷ []
-
--- where x stands in a list, counted from k, or 0
-unfoldable pub countedFrom : ℕ → ℕ → List ℕ → ℕ
-countedFrom k x [] = 0
-countedFrom k x (y ∷ l) = cond (eqb x y) k (countedFrom (suc k) x l)
-
--- byte 6 of the first page
-unfoldable pub letterOn : List (List ℕ) → ℕ
-letterOn [] = 0
-letterOn (p ∷ l) = getD p 6 0
-
--- its rank, 0 outside the four
-unfoldable pub bookRank : List (List ℕ) → ℕ
-bookRank ps = countedFrom 1 (letterOn ps) ranked
-
 -- ---- its replies
 
--- a refusal, an answer, or an answer whose number is not the book's
+-- a refusal, an answer, an answer whose number is not the book's, an answer with an output whose order is not the
+-- book's, or "fits already"
 pub data BookReply : Type 0 where
   refuses : ℕ → BookReply
   answers : ℕ → BookReply
   anyNumber : BookReply
+  inAnyOrder : ℕ → BookReply
+  fits : BookReply
 
 pub record BookStep : Type 0 where
   pub reply : BookReply
@@ -181,6 +165,28 @@ bookBreaks i b =
     (cond (not (noted (lineWith i (b .lines)))) (bookRefuses 6 b [])
     (record { reply = anyNumber; book = b; output = [] }))
 
+-- the ids of the lines whose pages and f are at least n
+unfoldable pub idsWithRoom : ℕ → ℕ → List Line → List ℕ
+idsWithRoom n f [] = []
+idsWithRoom n f (x ∷ l) =
+    elim (leb n (f + length (x .pages))) as (λ _. List ℕ)
+    [ true ↦ x .id ∷ idsWithRoom n f l | false ↦ idsWithRoom n f l ]
+
+-- numbers, and zeros behind them: 64 in all
+abbrev pub filledUp : List ℕ → List ℕ
+filledUp l = l ++ replicate (mostLines - length l) 0
+
+abbrev pub bookWhich : ℕ → List ℕ → Book → BookStep
+bookWhich n o b =
+    cond (eqb n 0) (bookRefuses 8 b o)
+    (cond (not (eqb (length o) mostLines)) (bookRefuses 14 b o)
+    (cond (leb n (bookFree b)) (record { reply = fits; book = b; output = filledUp [] })
+    (record {
+      reply = inAnyOrder (length (idsWithRoom n (bookFree b) (b .lines)));
+      book = b;
+      output = filledUp (idsWithRoom n (bookFree b) (b .lines));
+    })))
+
 -- the book at a call
 abbrev pub inBook : Call → Book → BookStep
 inBook (add i bs) b = bookAdd i bs b
@@ -188,5 +194,6 @@ inBook (remove i) b = bookRemove i b
 inBook (replace i bs) b = bookReplace i bs b
 inBook (read i p o) b = bookRead i p o b
 inBook (breaks i) b = bookBreaks i b
+inBook (which n o) b = bookWhich n o b
 inBook free b = bookAnswers (bookFree b) b []
 inBook check b = bookAnswers (b .blocks) b []

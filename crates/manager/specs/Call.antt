@@ -14,16 +14,19 @@ pub data Call : Type 0 where
   read : ℕ → ℕ → List ℕ → Call
   -- id
   breaks : ℕ → Call
+  -- n, and the list of two-byte numbers
+  which : ℕ → List ℕ → Call
   free : Call
   check : Call
 
--- the caller's output buffer
+-- the caller's output buffer; that of `which` has numbers in the place of bytes
 abbrev pub outputOf : Call → List ℕ
 outputOf (add i bs) = []
 outputOf (remove i) = []
 outputOf (replace i bs) = []
 outputOf (read i p o) = o
 outputOf (breaks i) = []
+outputOf (which n o) = o
 outputOf free = []
 outputOf check = []
 
@@ -34,6 +37,7 @@ TwoByteId (remove i) = Unit {0}
 TwoByteId (replace i bs) = Unit {0}
 TwoByteId (read i p o) = Unit {0}
 TwoByteId (breaks i) = Unit {0}
+TwoByteId (which n o) = Unit {0}
 TwoByteId free = Unit {0}
 TwoByteId check = Unit {0}
 

@@ -1,15 +1,16 @@
--- What a call leaves: a refusal's number and the buffers as they were, and all that an add, a removal and a replacement
--- do to a sound catalogue and its disk. Definitions only.
+-- What a call leaves: a refusal's number and the buffers as they were, all that an add, a removal and a replacement do
+-- to a sound catalogue and its disk, and all that `which` gives on a sound catalogue. Definitions only.
 use mathlib.Core.Bool.{false}
-use mathlib.Core.List.{List, [], map}
+use mathlib.Core.List.{List, [], _++_, map}
 use mathlib.Core.Path.{_≡_}
-use Prim.Native.Nat.{_*_, _+_, _<_, _≤_, ℕ}
-use lib.ListN.{length}
-use Rattle.section.specs.Limits.{blockSize, heightCount}
+use Prim.Native.Nat.{_*_, _+_, _-_, _<_, _≤_, ℕ}
+use lib.ListN.{length, replicate}
+use Rattle.section.specs.Limits.{blockSize, heightCount, mostFiles}
 use Rattle.section.specs.declared.Section.{Section}
 use Rattle.layout.specs.Adding.{allocate, allocated, withFile}
 use Rattle.layout.specs.Carries.{carries}
 use Rattle.layout.specs.Layout.{File, Layout, fileBlocks, findFile, found, freeBlocks, holdsBlock}
+use Rattle.layout.specs.Helping.{Helping}
 use Rattle.layout.specs.Lists.{Each, sumOf}
 use Rattle.layout.specs.Removing.{Copy, copiesOf, layoutAfter, release, removal}
 use Rattle.layout.specs.Sound.{Sound}
@@ -17,7 +18,7 @@ use Rattle.catalogue.specs.Encoding.{encode}
 use Rattle.catalogue.specs.declared.Version.{Version}
 use Rattle.manager.specs.Book.{contentPages, strikeLine, writeLine}
 use Rattle.manager.specs.Call.{Call}
-use Rattle.manager.specs.Conditions.{Outcome, answered, refused, unpaged}
+use Rattle.manager.specs.Conditions.{Outcome, answered, fitsAlready, refused, unpaged}
 use Rattle.manager.specs.Disk.{block, cutPages, pageCount, pagesOn, runCopies}
 use Rattle.manager.specs.Outcomes.{addOutcome, perform, removeOutcome}
 use Rattle.manager.specs.Table.{firstRank}
@@ -102,3 +103,13 @@ pub record Replaces (v : Version) (l : Layout) (d : List ℕ) (i : ℕ) (f : Fil
   -- the other files keep their pages, and the new one has those of the content
   pub lines : map (lineOn (o .disk)) (withFile i (added .pieces) (added .rest) (without l f) .files)
       ≡ writeLine (record { id = i; pages = contentPages bs }) (strikeLine i (map (lineOn d) (l .files)))
+
+-- all that `which` gives for n blocks, at least one, on the layout l: catalogue and disk stay
+pub record GivesHelp (l : Layout) (n : ℕ) (cat d : List ℕ) (o : Outcome) : Type 0 where
+  pub catalogue : o .catalogue ≡ cat
+  pub disk : o .disk ≡ d
+  -- n blocks fit already: only zeros
+  pub fits : n ≤ freeBlocks l → (o .reply ≡ fitsAlready) × (o .output ≡ replicate mostFiles 0)
+  -- else the ids of the files whose removal lets them in, in their order, and how many; then zeros
+  pub ids : freeBlocks l < n → (is : List ℕ) × Helping heightCount n l is × (o .reply ≡ answered (length is))
+      × (o .output ≡ is ++ replicate (mostFiles - length is) 0)

@@ -1,5 +1,5 @@
--- Replies, outcomes, and the ordered conditions of each call: document 01, "Calls"; of a replacement: document 02, W1.
--- Definitions only.
+-- Replies, outcomes, and the ordered conditions of each call: document 01, "Calls"; of a replacement: document 02, W1;
+-- of `which`: document 02, W4. Definitions only.
 -- The first condition that applies is the refusal, and no buffer changes then.
 use mathlib.Core.Bool.{Bool, _||_, false, not, true}
 use mathlib.Core.List.{List, [], _∷_}
@@ -16,10 +16,11 @@ use Rattle.section.specs.Limits.{blockSize, mostFiles}
 
 -- ---- replies, outcomes, conditions
 
--- an answer and a refusal of the same value are told apart
+-- an answer and a refusal of the same value are told apart, and "fits already" from every number
 pub data Reply : Type 0 where
   answered : ℕ → Reply
   refused : ℕ → Reply
+  fitsAlready : Reply
 
 -- the reply, and the three buffers afterwards
 pub record Outcome : Type 0 where
@@ -131,6 +132,10 @@ replaceChecks i new d l =
     ∷ condition 11 (tooLong new l (findFile i (l .files)))
     ∷ []
 
+-- of n, and of the list that has not 64 places; no disk, no file
+abbrev pub whichChecks : ℕ → List ℕ → List Condition
+whichChecks n o = condition 8 (eqb n 0) ∷ condition 14 (not (eqb (length o) mostFiles)) ∷ []
+
 -- ---- the whole list of each call
 
 abbrev pub addConditions : Version → ℕ → List ℕ → List ℕ → List ℕ → List Condition
@@ -156,6 +161,10 @@ readConditions v i p o cat d =
 abbrev pub breaksConditions : Version → ℕ → List ℕ → List Condition
 breaksConditions v i cat =
     condition 1 (wrongCatalogue v cat) ∷ onLayout (readCatalogue v cat) λ l. fileChecks i l
+
+abbrev pub whichConditions : Version → ℕ → List ℕ → List ℕ → List Condition
+whichConditions v n o cat =
+    condition 1 (wrongCatalogue v cat) ∷ onLayout (readCatalogue v cat) λ l. whichChecks n o
 
 abbrev pub freeConditions : Version → List ℕ → List Condition
 freeConditions v cat = condition 1 (wrongCatalogue v cat) ∷ onLayout (readCatalogue v cat) λ l. []

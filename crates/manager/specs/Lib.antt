@@ -4,7 +4,9 @@ pub mod Disk
 pub mod Call
 pub mod Conditions
 pub mod Outcomes
+pub mod Arguments
 pub mod Table
+pub mod BookLetters
 pub mod Book
 pub mod WholeList
 pub mod Printing

@@ -1,22 +1,27 @@
--- The outcome of each call on bytes: document 01, "Calls", "Adding" and "Removing"; document 02, W1. Definitions only.
+-- The outcome of each call on bytes: document 01, "Calls", "Adding" and "Removing"; document 02, W1 and W4.
+-- Definitions only.
 -- A refusal at a place that the conditions never let a call reach is marked so.
-use mathlib.Core.List.{List, []}
-use Prim.Native.Nat.{ℕ}
-use lib.ListN.{drop, length, take}
+use mathlib.Core.Bool.{cond}
+use mathlib.Core.List.{List, [], _++_}
+use Prim.Native.Nat.{_-_, ℕ}
+use lib.Dec.{leb}
+use lib.ListN.{drop, length, replicate, take}
 use Rattle.catalogue.specs.Encoding.{encode}
 use Rattle.catalogue.specs.Reading.{Reading, readCatalogue, sound, unsound}
 use Rattle.catalogue.specs.Version.{versionFor, versionOf}
 use Rattle.catalogue.specs.declared.Version.{Version}
-use Rattle.section.specs.Limits.{heightCount}
+use Rattle.section.specs.Limits.{heightCount, mostFiles}
 use Rattle.layout.specs.Adding.{Allocated, allocate, allocated, tooFew, withFile}
 use Rattle.layout.specs.Layout.{Found, Layout, blocksOf, breaksOf, findFile, found, freeBlocks, freshLayout}
 use Rattle.layout.specs.Layout.{missing}
+use Rattle.layout.specs.Helping.{helpingIds}
 use Rattle.layout.specs.Removing.{Merge, copiesOf, layoutAfter, release, removal}
-use Rattle.manager.specs.Call.{Call, add, breaks, check, free, read, remove, replace}
+use Rattle.manager.specs.Call.{Call, add, breaks, check, free, read, remove, replace, which}
 use Rattle.manager.specs.Conditions.{Outcome, Reply, addConditions, answered, breaksConditions}
-use Rattle.manager.specs.Conditions.{checkConditions, firstRefusal, formatConditions, freeConditions, outcome}
+use Rattle.manager.specs.Conditions.{checkConditions, firstRefusal, fitsAlready, formatConditions}
+use Rattle.manager.specs.Conditions.{freeConditions, outcome}
 use Rattle.manager.specs.Conditions.{readConditions, refused, removeConditions, replaceConditions, replyUnless}
-use Rattle.manager.specs.Conditions.{unlessRefused}
+use Rattle.manager.specs.Conditions.{unlessRefused, whichConditions}
 use Rattle.manager.specs.Disk.{cutPages, joinPages, pageCount, pagesOn, runCopies, writePages}
 
 -- ---- what is done
@@ -68,6 +73,21 @@ abbrev pub doBreaks : ℕ → Reading → Reply
 doBreaks i (sound l) = breaksFound (findFile i (l .files))
 doBreaks i unsound = refused 3
 
+-- a list of 64 places: these numbers, then zeros
+abbrev pub thenZeros : List ℕ → List ℕ
+thenZeros ids = ids ++ replicate (mostFiles - length ids) 0
+
+-- the ids of the files whose removal lets n blocks in; only zeros if n blocks fit already
+abbrev pub helpFor : ℕ → List ℕ → List ℕ → Layout → Outcome
+helpFor n cat d l =
+    cond (leb n (freeBlocks l))
+    (outcome fitsAlready cat d (thenZeros []))
+    (outcome (answered (length (helpingIds heightCount n l))) cat d (thenZeros (helpingIds heightCount n l)))
+
+abbrev pub doWhich : ℕ → List ℕ → List ℕ → List ℕ → Reading → Outcome
+doWhich n o cat d (sound l) = helpFor n cat d l
+doWhich n o cat d unsound = outcome (refused 3) cat d o
+
 abbrev pub doFree : Reading → Reply
 doFree (sound l) = answered (freeBlocks l)
 doFree unsound = refused 3
@@ -99,6 +119,11 @@ readIn v i p o cat d =
 -- breaks and free see the catalogue alone
 unfoldable pub breaksIn : Version → ℕ → List ℕ → Reply
 breaksIn v i cat = replyUnless (firstRefusal (breaksConditions v i cat)) (doBreaks i (readCatalogue v cat))
+
+-- `which` sees the catalogue alone too: whatever disk there is stays as it is
+unfoldable pub whichIn : Version → ℕ → List ℕ → List ℕ → List ℕ → Outcome
+whichIn v n o cat d =
+    unlessRefused (firstRefusal (whichConditions v n o cat)) cat d o (doWhich n o cat d (readCatalogue v cat))
 
 unfoldable pub freeIn : Version → List ℕ → Reply
 freeIn v cat = replyUnless (firstRefusal (freeConditions v cat)) (doFree (readCatalogue v cat))
@@ -147,15 +172,20 @@ breaksOutcome i cat = outcome (breaksReply i cat) cat [] []
 abbrev pub freeOutcome : List ℕ → Outcome
 freeOutcome cat = outcome (freeReply cat) cat [] []
 
+-- nor does `which`
+abbrev pub whichOutcome : ℕ → List ℕ → List ℕ → Outcome
+whichOutcome n o cat = whichIn (versionOf cat) n o cat []
+
 abbrev pub checkOutcome : List ℕ → List ℕ → Outcome
 checkOutcome cat d = outcome (checkReply cat d) cat d []
 
--- a call of a list; the disk that breaks and free do not get stays as it is
+-- a call of a list; the disk that breaks, which and free do not get stays as it is
 abbrev pub perform : Call → List ℕ → List ℕ → Outcome
 perform (add i bs) cat d = addOutcome i bs cat d
 perform (remove i) cat d = removeOutcome i cat d
 perform (replace i bs) cat d = replaceOutcome i bs cat d
 perform (read i p o) cat d = readOutcome i p o cat d
 perform (breaks i) cat d = outcome (breaksReply i cat) cat d []
+perform (which n o) cat d = whichIn (versionOf cat) n o cat d
 perform free cat d = outcome (freeReply cat) cat d []
 perform check cat d = checkOutcome cat d

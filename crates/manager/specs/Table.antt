@@ -2,9 +2,8 @@
 -- which order, and if what. Definitions only.
 use mathlib.Core.Bool.{Bool, _&&_, _||_, cond, false, true}
 use mathlib.Core.List.{List, [], _∷_}
-use mathlib.Core.Logic.{_⊎_}
 use mathlib.Core.Path.{_≡_}
-use Prim.Native.Nat.{_%_, _*_, _+_, _<_, _≤_, suc, ℕ}
+use Prim.Native.Nat.{_*_, _+_, _<_, _≤_, suc, ℕ}
 use lib.Dec.{eqb, ltb}
 use lib.ListN.{length}
 use Rattle.catalogue.specs.Encoding.{encode}
@@ -13,7 +12,8 @@ use Rattle.catalogue.specs.declared.Version.{Version}
 use Rattle.layout.specs.Layout.{File, Found, Layout, fileBlocks, findFile, found, freeBlocks, missing}
 use Rattle.layout.specs.Lists.{Each}
 use Rattle.layout.specs.Sound.{Sound}
-use Rattle.manager.specs.Call.{Call, add, breaks, check, free, read, remove, replace}
+use Rattle.manager.specs.Arguments.{NoPages, bufferOf, firstPageOf, idOf, placesOf}
+use Rattle.manager.specs.Call.{Call, add, breaks, check, free, read, remove, replace, which}
 use Rattle.manager.specs.Disk.{cutPages, pageCount, pagesOn}
 use Rattle.quality.specs.Letters.{firstLetter, rankOf}
 use Rattle.section.specs.Limits.{blockSize, mostFiles}
@@ -32,6 +32,7 @@ pub data Refusal : Type 0 where
   noSpace : Refusal
   letterUnknown : Refusal
   letterNotAbove : Refusal
+  listLength : Refusal
 
 -- the number that is returned
 abbrev pub numberOf : Refusal → ℕ
@@ -48,6 +49,7 @@ numberOf filesFull = 10
 numberOf noSpace = 11
 numberOf letterUnknown = 12
 numberOf letterNotAbove = 13
+numberOf listLength = 14
 
 -- the column "By": the numbers that a call may give, in the order of its checks
 abbrev pub numbersOf : Call → List ℕ
@@ -56,6 +58,7 @@ numbersOf (remove i) = 1 ∷ 3 ∷ 4 ∷ 5 ∷ 6 ∷ []
 numbersOf (replace i bs) = 1 ∷ 3 ∷ 4 ∷ 5 ∷ 6 ∷ 8 ∷ 12 ∷ 13 ∷ 11 ∷ []
 numbersOf (read i p o) = 1 ∷ 3 ∷ 4 ∷ 5 ∷ 6 ∷ 8 ∷ 9 ∷ []
 numbersOf (breaks i) = 1 ∷ 3 ∷ 5 ∷ 6 ∷ []
+numbersOf (which n o) = 1 ∷ 3 ∷ 8 ∷ 14 ∷ []
 numbersOf free = 1 ∷ 3 ∷ []
 numbersOf check = 1 ∷ 3 ∷ 4 ∷ []
 
@@ -71,34 +74,6 @@ isRising (n ∷ m ∷ l) = ltb n m && isRising (m ∷ l)
 
 abbrev pub By : Refusal → Call → Type 0
 By r c = isListed (numberOf r) (numbersOf c) ≡ true
-
--- the arguments that the conditions name
-abbrev pub idOf : Call → ℕ
-idOf (add i bs) = i
-idOf (remove i) = i
-idOf (replace i bs) = i
-idOf (read i p o) = i
-idOf (breaks i) = i
-idOf free = 0
-idOf check = 0
-
-abbrev pub bufferOf : Call → List ℕ
-bufferOf (add i bs) = bs
-bufferOf (remove i) = []
-bufferOf (replace i bs) = bs
-bufferOf (read i p o) = o
-bufferOf (breaks i) = []
-bufferOf free = []
-bufferOf check = []
-
-abbrev pub firstPageOf : Call → ℕ
-firstPageOf (add i bs) = 0
-firstPageOf (remove i) = 0
-firstPageOf (replace i bs) = 0
-firstPageOf (read i p o) = p
-firstPageOf (breaks i) = 0
-firstPageOf free = 0
-firstPageOf check = 0
 
 -- the catalogue is the encoding of the sound layout l in one of the versions
 pub record CatalogueOf (cat : List ℕ) (l : Layout) : Type 0 where
@@ -123,6 +98,7 @@ spaceFor (remove i) l = freeBlocks l
 spaceFor (replace i bs) l = freeBlocks l + blocksFound (findFile i (l .files))
 spaceFor (read i p o) l = freeBlocks l
 spaceFor (breaks i) l = freeBlocks l
+spaceFor (which n o) l = freeBlocks l
 spaceFor free l = freeBlocks l
 spaceFor check l = freeBlocks l
 
@@ -143,7 +119,7 @@ GivenIf diskLength c cat d = (l : Layout) × CatalogueOf cat l × (length d ≡ 
 GivenIf idZero c cat d = idOf c ≡ 0
 GivenIf idMissing c cat d = (l : Layout) × CatalogueOf cat l × NoFile (idOf c) l
 GivenIf idThere c cat d = (l : Layout) × CatalogueOf cat l × (NoFile (idOf c) l → ⊥)
-GivenIf bufferLength c cat d = (length (bufferOf c) ≡ 0) ⊎ (length (bufferOf c) % blockSize ≡ 0 → ⊥)
+GivenIf bufferLength c cat d = NoPages c
 GivenIf pastEnd c cat d =
     (l : Layout) × CatalogueOf cat l × (f : File) × (findFile (idOf c) (l .files) ≡ found f)
     × (fileBlocks f < firstPageOf c + pageCount (bufferOf c))
@@ -153,6 +129,7 @@ GivenIf letterUnknown c cat d = firstRank (newPages c) ≡ 0
 GivenIf letterNotAbove c cat d =
     (l : Layout) × CatalogueOf cat l × (f : File) × (findFile (idOf c) (l .files) ≡ found f)
     × (firstRank (newPages c) ≤ firstRank (pagesOn d (f .pieces)))
+GivenIf listLength c cat d = length (placesOf c) ≡ mostFiles → ⊥
 
 -- how many numbers of a list stand before n
 abbrev pub placeIn : List ℕ → ℕ → ℕ

@@ -1,9 +1,9 @@
--- The claim about the whole list of calls: document 01, "The plain book"; document 02, W1. Definitions only.
+-- The claim about the whole list of calls: document 01, "The plain book"; document 02, W1 and W4. Definitions only.
 -- `WholeList` is the one statement; `whole-list` of `proofs/WholeList.antt` proves it, of every version.
 use mathlib.Core.List.{List, [], _∷_, map}
 use mathlib.Core.Path.{_≡_}
-use Prim.Native.Nat.{_*_, _<_, _≤_, ℕ}
-use lib.ListN.{length}
+use Prim.Native.Nat.{_*_, _-_, _<_, _≤_, ℕ}
+use lib.ListN.{drop, length, replicate, take}
 use Rattle.catalogue.specs.Encoding.{byteValues}
 use Rattle.catalogue.specs.Version.{OneOf, greatestBlocks, versions}
 use Rattle.catalogue.specs.declared.Version.{Version}
@@ -11,20 +11,21 @@ use Rattle.layout.specs.Carries.{carries}
 use Rattle.layout.specs.Layout.{File, Layout, OnePiecePerOne, allPieces, breaksOf, fileBlocks, findFile, found}
 use Rattle.layout.specs.Layout.{freeBlocks, holdsBlock}
 use Rattle.layout.specs.Lists.{Each, sumOf}
+use Rattle.layout.specs.Helping.{InCopyOrder, timesIn}
 use Rattle.layout.specs.Removing.{copiesOf, removal}
-use Rattle.manager.specs.Book.{Book, BookReply, Line, answers, anyNumber, bookFree, freshBook, inBook, line}
-use Rattle.manager.specs.Book.{lineWith, refuses}
-use Rattle.manager.specs.Call.{Call, ListedCall, add, breaks, check, free, read, remove, replace}
-use Rattle.manager.specs.Conditions.{Reply, answered, refused}
+use Rattle.manager.specs.Book.{Book, BookReply, Line, answers, anyNumber, bookFree, fits, freshBook, inAnyOrder}
+use Rattle.manager.specs.Book.{inBook, line, lineWith, refuses}
+use Rattle.manager.specs.Call.{Call, ListedCall, add, breaks, check, free, read, remove, replace, which}
+use Rattle.manager.specs.Conditions.{Reply, answered, fitsAlready, refused}
 use Rattle.manager.specs.Disk.{pagesOn}
 use Rattle.manager.specs.Outcomes.{formatOutcome, perform}
 use Rattle.manager.specs.Table.{CatalogueOf}
-use Rattle.section.specs.Limits.{blockSize, heightCount}
+use Rattle.section.specs.Limits.{blockSize, heightCount, mostFiles}
 
 -- ---- at each call
 
--- the manager refuses exactly when the book does, with the same number, and its answer is the book's where the book
--- has one
+-- the manager refuses exactly when the book does, with the same number, says "fits already" exactly when the book
+-- does, and its answer is the book's where the book has one
 abbrev pub RepliesAgree : Reply → BookReply → Type 0
 RepliesAgree (refused n) (refuses m) = n ≡ m
 RepliesAgree (answered n) (answers m) = n ≡ m
@@ -32,10 +33,32 @@ RepliesAgree (answered n) anyNumber = Unit {0}
 RepliesAgree (refused n) (answers m) = ⊥
 RepliesAgree (refused n) anyNumber = ⊥
 RepliesAgree (answered n) (refuses m) = ⊥
+RepliesAgree (answered n) (inAnyOrder m) = n ≡ m
+RepliesAgree (refused n) (inAnyOrder m) = ⊥
+RepliesAgree fitsAlready fits = Unit {0}
+RepliesAgree fitsAlready (refuses m) = ⊥
+RepliesAgree fitsAlready (answers m) = ⊥
+RepliesAgree fitsAlready anyNumber = ⊥
+RepliesAgree fitsAlready (inAnyOrder m) = ⊥
+RepliesAgree (answered n) fits = ⊥
+RepliesAgree (refused n) fits = ⊥
+
+-- each number stands in both lists as often
+abbrev pub SameNumbers : List ℕ → List ℕ → Type 0
+SameNumbers a b = (x : ℕ) → timesIn x a ≡ timesIn x b
+
+-- the output is the book's, and where its order is not the book's the numbers in it are
+abbrev pub OutputsAgree : BookReply → List ℕ → List ℕ → Type 0
+OutputsAgree (refuses m) a b = a ≡ b
+OutputsAgree (answers m) a b = a ≡ b
+OutputsAgree anyNumber a b = a ≡ b
+OutputsAgree (inAnyOrder m) a b = SameNumbers a b
+OutputsAgree fits a b = a ≡ b
 
 abbrev pub Answered : Reply → Type 0
 Answered (answered n) = Unit {0}
 Answered (refused n) = ⊥
+Answered fitsAlready = Unit {0}
 
 -- only an add, a removal or a replacement that is not refused alters anything
 abbrev pub Alters : Call → Reply → Type 0
@@ -44,6 +67,7 @@ Alters (remove i) r = Answered r
 Alters (replace i bs) r = Answered r
 Alters (read i p o) r = ⊥
 Alters (breaks i) r = ⊥
+Alters (which n o) r = ⊥
 Alters free r = ⊥
 Alters check r = ⊥
 
@@ -54,14 +78,15 @@ Strikes i (remove j) = i ≡ j
 Strikes i (replace j bs) = i ≡ j
 Strikes i (read j p o) = ⊥
 Strikes i (breaks j) = ⊥
+Strikes i (which n o) = ⊥
 Strikes i free = ⊥
 Strikes i check = ⊥
 
 -- what is claimed of one call on a catalogue and a disk, beside the book
 pub record CallAgrees (c : Call) (cat d : List ℕ) (b : Book) : Type 0 where
   pub reply : RepliesAgree (perform c cat d .reply) (inBook c b .reply)
-  -- the whole output of a read
-  pub output : perform c cat d .output ≡ inBook c b .output
+  -- the whole output of a read, and the numbers that `which` writes
+  pub output : OutputsAgree (inBook c b .reply) (perform c cat d .output) (inBook c b .output)
   pub catalogue-kept : (Alters c (perform c cat d .reply) → ⊥) → perform c cat d .catalogue ≡ cat
   pub disk-kept : (Alters c (perform c cat d .reply) → ⊥) → perform c cat d .disk ≡ d
   pub book-kept : (Alters c (perform c cat d .reply) → ⊥) → inBook c b .book ≡ b
@@ -77,6 +102,12 @@ pub record CallAgrees (c : Call) (cat d : List ℕ) (b : Book) : Type 0 where
   pub breaks-answer : (i k : ℕ) (l : Layout) (f : File) → c ≡ breaks i → perform c cat d .reply ≡ answered k
       → CatalogueOf cat l
       → findFile i (l .files) ≡ found f → k ≡ breaksOf (f .pieces)
+  -- the k ids that `which` writes stand by the copies of the removals of their files, equal counts by lower id, and
+  -- zeros behind them
+  pub which-order : (n k : ℕ) (o : List ℕ) (l : Layout) → c ≡ which n o → perform c cat d .reply ≡ answered k
+      → CatalogueOf cat l → InCopyOrder heightCount l (take k (perform c cat d .output))
+  pub which-zeros : (n k : ℕ) (o : List ℕ) → c ≡ which n o → perform c cat d .reply ≡ answered k
+      → drop k (perform c cat d .output) ≡ replicate (mostFiles - k) 0
 
 -- ---- after the list
 

@@ -1,17 +1,12 @@
 -- A table whose free pieces are kept beside it while it merges. Assumes nothing.
-use mathlib.Core.List.{List}
 use Prim.Native.Nat.{_≤_, ℕ}
 use Rattle.section.specs.declared.Section.{Section}
-use Rattle.layout.proofs.FreeBuddies.{free-in-order}
-use Rattle.free_pieces.specs.Free.{freeOf, freePlaces}
-use Rattle.layout.specs.Layout.{InOrder}
+use Rattle.free_pieces.specs.Free.{freePlaces}
 use Rattle.free_pieces.specs.declared.Free.{Free}
 use Rattle.free_pieces.specs.declared.Pair.{Pair}
 use Rattle.table.proofs.FilesMoving.{FilesMoving}
 use Rattle.table.specs.Merges.{Ready}
-use Rattle.table.specs.Tables.{layoutOf}
 use Rattle.table.specs.declared.Table.{Table}
-use Rattle.settling.proofs.Settling.{Settling}
 
 -- the table with the pieces beside it put into it
 abbrev pub withFree : Table → Free → Table
@@ -45,9 +40,3 @@ moving-beside p b u m t₀ t i free₀ free a g = record {
   count = g .count;
   blocks = g .blocks;
 }
-
--- the free pieces end each before the next, whether they are the table's own or were put into it as above
-pub settling-in-order : (t₀ : Table) (d₀ : List ℕ) (t : Table) (d : List ℕ) (copied : ℕ) → Settling t₀ d₀ t d copied
-    → InOrder (freeOf (t .free))
-unfolding layoutOf
-settling-in-order t₀ d₀ t d copied g = free-in-order (t .blocks) (layoutOf t) (g .whole)

@@ -1,13 +1,24 @@
 // Merging to the end: merges until no height has two free pieces, with the blocks that files hold copied at the step of
-// their merge and counted.
+// their merge and counted, or counted alone.
 ghost use lib.ListN.{length};
 ghost use Rattle.settling.specs.Settling.{CanSettle, Settles};
+use free_pieces::Free;
 use table::Table;
 use table::free_merged;
+
+mod planning;
+
+pub use planning::plan;
 
 // A table whose merges are done, and the number of blocks that were copied for it.
 pub struct Settled {
     pub table: Table,
+    pub copied: u32,
+}
+
+// The free pieces when the merges are done, and the number of blocks that would be copied for them.
+pub struct Planned {
+    pub free: Free,
     pub copied: u32,
 }
 

@@ -1,4 +1,4 @@
--- The next merge of a table by the pair that `lowest_pair` answers. Assumes nothing.
+-- The next merge of a layout by the pair that `lowest_pair` answers. Assumes nothing.
 use mathlib.Core.Bool.{false, true}
 use mathlib.Core.List.{List}
 use mathlib.Core.Path.{_∙_, _≡_, ap, refl, subst, sym}
@@ -12,9 +12,7 @@ use Rattle.layout.specs.Layout.{Layout}
 use Rattle.layout.specs.Removing.{MergePair, Next, due, fewer, merge, mergePair, nextMerge, pair, settled}
 use Rattle.section.specs.declared.Section.{Section}
 use Rattle.free_pieces.specs.Free.{Pairs, freeOf, lowestPair, pairOf}
-use Rattle.table.specs.Tables.{layoutOf}
 use Rattle.free_pieces.specs.declared.Pair.{Pair}
-use Rattle.table.specs.declared.Table.{Table}
 
 -- the merge of a pair, if there is one
 abbrev pub nextOf : Layout → MergePair → Next
@@ -33,24 +31,22 @@ next-is (suc k) h w = go (mergePair h (w .free)) (next-is k (suc h) w)
     go (pair l u others) e = refl
     go fewer e = e
 
-module _ (n : ℕ) (t : Table) (p : Pair) (ps : Pairs n (lowestPair heightCount 0 (freeOf (t .free))) p) where
+module _ (n : ℕ) (w : Layout) (p : Pair) (ps : Pairs n (lowestPair heightCount 0 (w .free)) p) where
   pub pair-found : p .found ≡ true
-      → lowestPair heightCount 0 (freeOf (t .free)) ≡ pair (p .lower) (p .upper) (freeOf (p .others))
+      → lowestPair heightCount 0 (w .free) ≡ pair (p .lower) (p .upper) (freeOf (p .others))
   unfolding pairOf
   pair-found f = sym (ps .meaning) ∙ rw (f, pairOf)
 
   pub merge-due : p .found ≡ true
-      → nextMerge heightCount 0 (layoutOf t) ≡ due (merge (p .lower) (p .upper) (freeOf (p .others)) (layoutOf t))
-  unfolding layoutOf
-  merge-due f = next-is heightCount 0 (layoutOf t) ∙ ap (nextOf (layoutOf t)) (pair-found f)
+      → nextMerge heightCount 0 w ≡ due (merge (p .lower) (p .upper) (freeOf (p .others)) w)
+  merge-due f = next-is heightCount 0 w ∙ ap (nextOf w) (pair-found f)
 
-  pub pair-not : p .found ≡ false → lowestPair heightCount 0 (freeOf (t .free)) ≡ fewer
+  pair-not : p .found ≡ false → lowestPair heightCount 0 (w .free) ≡ fewer
   unfolding pairOf
   pair-not f = sym (ps .meaning) ∙ rw (f, pairOf)
 
-  pub merge-settled : p .found ≡ false → nextMerge heightCount 0 (layoutOf t) ≡ settled
-  unfolding layoutOf
-  merge-settled f = next-is heightCount 0 (layoutOf t) ∙ ap (nextOf (layoutOf t)) (pair-not f)
+  pub merge-settled : p .found ≡ false → nextMerge heightCount 0 w ≡ settled
+  merge-settled f = next-is heightCount 0 w ∙ ap (nextOf w) (pair-not f)
 
 -- the two that are due, of k heights from h up
 pub record Due (k h : ℕ) (free : List Section) (l u : Section) (r : List Section) : Type 0 where

@@ -21,11 +21,12 @@ use Rattle.section.specs.Limits.{greatestDisk, heightCount}
 use Rattle.section.specs.Sections.{Addressable, buddyOf}
 use Rattle.section.specs.declared.Section.{Section}
 use Rattle.free_pieces.proofs.HeldGaps.{held-between, others-in-order}
-use Rattle.free_pieces.specs.Free.{Pairs, freeOf, lowestPair}
+use Rattle.free_pieces.specs.Free.{Pairs, freeOf, freePlaces, lowestPair}
 use Rattle.free_pieces.specs.Gaps.{PairFits, freeCopies}
 use Rattle.free_pieces.specs.declared.Pair.{Pair}
 use Rattle.table.proofs.NextPair.{DueOf, due-is, pair-found}
 use Rattle.table.specs.Merges.{Ready}
+use Rattle.table.specs.Moves.{CanMove}
 use Rattle.table.specs.Tables.{Sized, fileOf, filesOf, layoutOf}
 use Rattle.table.specs.declared.Table.{Table}
 
@@ -68,37 +69,49 @@ pair-fits c w l u r wh p =
       keeps = merge-keeps c (l .height .value) w l u r wh p;
     }
 
-module _ (c : ℕ) (top : c ≤ greatestDisk) (t : Table) (p : Pair) (wh : Whole c (layoutOf t)) (sized : Sized t)
-    (ps : Pairs (t .free .count) (lowestPair heightCount 0 (freeOf (t .free))) p) (f : p .found ≡ true) where
-  pub due-fits : Fits c (layoutOf t) (p .lower) (p .upper) (freeOf (p .others))
-  unfolding layoutOf
+-- of the two that are due among n free pieces
+module _ (c : ℕ) (top : c ≤ greatestDisk) (w : Layout) (wh : Whole c w) (n : ℕ) (few : n ≤ freePlaces) (p : Pair)
+    (ps : Pairs n (lowestPair heightCount 0 (w .free)) p) (f : p .found ≡ true) where
+  pub due-fits : Fits c w (p .lower) (p .upper) (freeOf (p .others))
   due-fits =
-      pair-fits c (layoutOf t) (p .lower) (p .upper) (freeOf (p .others)) wh
-      (subst (DueOf heightCount 0 (freeOf (t .free))) (pair-found (t .free .count) t p ps f)
-      (due-is heightCount 0 (freeOf (t .free)) (wh .rising)) .mergeable)
+      pair-fits c w (p .lower) (p .upper) (freeOf (p .others)) wh
+      (subst (DueOf heightCount 0 (w .free)) (pair-found n w p ps f)
+      (due-is heightCount 0 (w .free) (wh .rising)) .mergeable)
 
-  pub merge-ready : Ready t p
-  unfolding layoutOf filesOf
-  merge-ready = record {
-    sized = sized;
-    lower = served c top (p .lower) (due-fits .lower);
-    upper = served c top (p .upper) (due-fits .upper);
-    buddy = served c top (buddyOf (p .lower)) (due-fits .buddy);
-    files =
-        each-imp (λ e q. each-imp (served c top) q)
-        (each-unmap fileOf (take (t .count) (t .files))
-        (each-file (filesOf t) (each-left (filePieces (filesOf t)) (freeOf (t .free)) (wh .disk))));
-    others = each-imp (served c top) (due-fits .others);
-    few = omega (arith, ps .less f, sized .free);
+  -- what moving the others asks for
+  pub merge-movable : CanMove (buddyOf (p .lower)) (p .upper) (freeOf (p .others))
+  merge-movable = record {
+    from = served c top (buddyOf (p .lower)) (due-fits .buddy);
+    to = served c top (p .upper) (due-fits .upper);
+    pieces = each-imp (served c top) (due-fits .others);
   }
 
-  -- what counting its copies asks for
+  -- and what counting the copies asks for
   pub merge-countable : PairFits p
   merge-countable = record {
-    lower = merge-ready .lower;
-    buddy = merge-ready .buddy;
-    few = omega (arith, merge-ready .few);
+    lower = served c top (p .lower) (due-fits .lower);
+    buddy = merge-movable .from;
+    few = omega (arith, ps .less f, few);
     exact = ps .exact;
-    others = merge-ready .others;
+    others = merge-movable .pieces;
     order = due-fits .order;
   }
+
+-- what merging them in a table asks for
+pub merge-ready : (c : ℕ) → c ≤ greatestDisk → (t : Table) → Whole c (layoutOf t) → Sized t → (p : Pair)
+    → Pairs (t .free .count) (lowestPair heightCount 0 (layoutOf t .free)) p → p .found ≡ true → Ready t p
+unfolding layoutOf filesOf
+merge-ready c top t wh sized p ps f =
+    let m = merge-movable c top (layoutOf t) wh (t .free .count) (sized .free) p ps f in
+    record {
+      sized = sized;
+      lower = merge-countable c top (layoutOf t) wh (t .free .count) (sized .free) p ps f .lower;
+      upper = m .to;
+      buddy = m .from;
+      files =
+          each-imp (λ e q. each-imp (served c top) q)
+          (each-unmap fileOf (take (t .count) (t .files))
+          (each-file (filesOf t) (each-left (filePieces (filesOf t)) (freeOf (t .free)) (wh .disk))));
+      others = m .pieces;
+      few = omega (arith, ps .less f, sized .free);
+    }

@@ -1,4 +1,4 @@
--- What a release and a merge of a table leave is whole, and a sound table has room for a release. Assumes nothing.
+-- What a release of a table leaves is whole, and a sound table has room for it. Assumes nothing.
 use mathlib.Core.Path.{_≡_, subst, sym}
 use Prim.Native.Nat.{_<_, _≤_, ℕ}
 use native.Mathlib.Omega.{arith}
@@ -9,15 +9,13 @@ use Rattle.section.specs.Limits.{heightCount}
 use Rattle.layout.proofs.Finding.{found-find}
 use Rattle.layout.proofs.Removed.{release-whole}
 use Rattle.layout.proofs.Soundness.{free-few, sums-sound}
-use Rattle.table.proofs.ReadyPairs.{Fits}
 use Rattle.table.proofs.Released.{find-at}
 use Rattle.table.specs.Files.{entryAt, hasId}
-use Rattle.table.specs.Merges.{Merged, Released}
+use Rattle.table.specs.Merges.{Released}
 use Rattle.piece_lists.specs.Places.{firstPlace}
 use Rattle.piece_lists.specs.Few.{piecePlaces}
 use Rattle.free_pieces.specs.Free.{freeOf}
 use Rattle.table.specs.Tables.{fileOf, filesOf, layoutOf}
-use Rattle.free_pieces.specs.declared.Pair.{Pair}
 use Rattle.table.specs.declared.Table.{Table}
 
 module _ (t : Table) (g : SoundSums heightCount (layoutOf t)) where
@@ -36,7 +34,3 @@ module _ (t : Table) (g : SoundSums heightCount (layoutOf t)) where
       found-find (entryAt t i .id) (filesOf t) (fileOf (entryAt t i)) (find-at t (entryAt t i .id) i most at lt) in
       subst (Whole (t .blocks)) (sym (re .layout))
       (release-whole heightCount (entryAt t i .id) (layoutOf t) (fileOf (entryAt t i)) (x .0) g (x .1))
-
-pub table-merged-whole : (c : ℕ) (t : Table) (p : Pair) (r : Table)
-    → Fits c (layoutOf t) (p .lower) (p .upper) (freeOf (p .others)) → Merged t p r → Whole c (layoutOf r)
-table-merged-whole c t p r f m = subst (Whole c) (sym (m .layout)) (f .keeps .whole)

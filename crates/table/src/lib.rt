@@ -15,6 +15,7 @@ mod release;
 
 pub use files::with_file;
 pub use merges::free_merged;
+pub use release::free_with;
 
 // A file: its id, and its pieces in page order.
 pub struct Entry {

@@ -14,7 +14,7 @@ use free_pieces::Free;
 
 // The free pieces with those of a file, from the last one on. Each is put in its place here, by the loops of
 // `Free::with`, and not by that function, since a list that is passed on is copied.
-fn free_with(free: Free, e: Entry) -> Free
+pub fn free_with(free: Free, e: Entry) -> Free
     requires { ⌜ (InPlaces e) × (free .count + e .pieces .count ≤ freePlaces) ⌝ }
     ensures { λ r. ⌜ Lists (free .count + e .pieces .count) (insertAll (piecesIn e) (freeOf free)) r ⌝ }
 {

@@ -15,6 +15,7 @@ struct Outcome {
     answer: Result<u64, u8>,
     cat: Vec<u8>,
     out: Vec<u8>,
+    list: Vec<u16>,
     changed: Vec<Changed>,
 }
 
@@ -56,8 +57,9 @@ pub struct OtherLayout {
     pub copied: u64,
 }
 
-/// Makes each call once on every side, all from the same bytes, and compares answers, catalogues, outputs and disks; of
-/// the removals and replacements of other builds the files that are left. Answers which builds leave another layout.
+/// Makes each call once on every side, all from the same bytes, and compares answers, catalogues, outputs, lists and
+/// disks; of the removals and replacements of other builds the files that are left. Answers which builds leave another
+/// layout.
 pub fn sides_agree(scene: &mut Scene, builds: &[&'static Build]) -> Vec<OtherLayout> {
     let before = scene.disk.clone();
     let mut others = Vec::new();
@@ -87,9 +89,11 @@ fn outcome(scene: &mut Scene, side: Side, call: Call, before: &[u8]) -> Outcome 
     let (start, mut lent) = scene.lend(call);
     let mut cat = start.to_vec();
     lent.out.fill(0);
+    lent.list.fill(u16::MAX);
     let answer = make(side, call, &mut cat, &mut lent);
     assert!(answer.is_ok(), "{} refuses {}: {answer:?}", side.name(), call.name());
-    Outcome { answer, cat, out: lent.out.to_vec(), changed: put_back(lent.disk, before) }
+    let (out, list) = (lent.out.to_vec(), lent.list.to_vec());
+    Outcome { answer, cat, out, list, changed: put_back(lent.disk, before) }
 }
 
 /// Gives the blocks their bytes back, and answers which had changed. A large disk is not copied as a whole for it.
@@ -117,7 +121,7 @@ mod tests {
         let mut cat: Vec<u8> = fields.flat_map(u16::to_be_bytes).collect();
         cat.resize(twin::Version::SMALL.catalogue, 0);
         let changed = changed.iter().map(|&(place, byte)| (place, [byte; BLOCK])).collect();
-        Outcome { answer: Ok(copied), cat, out: Vec::new(), changed }
+        Outcome { answer: Ok(copied), cat, out: Vec::new(), list: Vec::new(), changed }
     }
 
     #[test]

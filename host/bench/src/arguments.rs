@@ -18,17 +18,18 @@ bench: times the proved event disk manager beside a plain twin and beside the se
                     the repository on, that is made from an archive of the build:
                     cc -shared -o FILE -Wl,--whole-archive libevdisk.a -Wl,--no-whole-archive
                     A build that does not have a version of the catalogue is left out on its disks, and one that has
-                    no replace in that row. One that merges other free sections in a removal is timed, and it is said
-                    how many blocks it copies
+                    no replace or no which in that row. One that merges other free sections in a removal is timed, and
+                    it is said how many blocks it copies
   --profile SIDE CALL DISK N
                     only makes a call N times, for a profiler to watch:
                     SIDE is proved, twin or model
-                    CALL is format, add, remove, replace, read-page, read-file, breaks, free or check
+                    CALL is format, add, remove, replace, read-page, read-file, breaks, free, check or which
                     DISK is 261-8, 261-64, 4096-8 or 4095-64: blocks and files, in the small catalogue; or
                     261-8-large, 1048576-8 or 1048576-64, in the large one
   --help            this text
 
-Times depend on the machine and on what else it does; the ratios and their spread are what to read.
+Times depend on the machine and on what else it does; the ratios and their spread are what to read. It ends with 0,
+or with 2 if something is wrong: also if a list of all removals takes more than 10 times as long as a removal.
 ";
 
 /// What to do.

@@ -35,9 +35,13 @@ impl Build {
         Ok(Box::leak(Box::new(Build { name: named.name, calls })))
     }
 
-    /// Whether the build has a call: those from before W1 have no replace.
+    /// Whether the build has a call: those from before W1 have no replace, and those from before W4 no which.
     pub fn has(&self, call: Call) -> bool {
-        call != Call::Replace || self.calls.has_replace()
+        match call {
+            Call::Replace => self.calls.has_replace(),
+            Call::Which => self.calls.has_which(),
+            _ => true,
+        }
     }
 
     /// Whether the build has a version: one that has not refuses the length of its catalogue.

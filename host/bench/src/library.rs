@@ -23,9 +23,10 @@ type Read = unsafe extern "C" fn(*const u8, usize, *const u8, usize, u16, u64, *
 type Breaks = unsafe extern "C" fn(*const u8, usize, u16) -> i64;
 type Free = unsafe extern "C" fn(*const u8, usize) -> i64;
 type Check = unsafe extern "C" fn(*const u8, usize, *const u8, usize) -> i64;
+type Which = unsafe extern "C" fn(*const u8, usize, u64, *mut u16, usize) -> i64;
 
-/// The eight calls of include/evdisk.h. Builds from before W1 have no replace. The library stays loaded to the end of
-/// the program.
+/// The calls of include/evdisk.h. Builds from before W1 have no replace, and those from before W4 no which. The library
+/// stays loaded to the end of the program.
 #[derive(Debug)]
 pub struct Library {
     format: Format,
@@ -36,6 +37,7 @@ pub struct Library {
     breaks: Breaks,
     free: Free,
     check: Check,
+    which: Option<Which>,
 }
 
 /// What the loader says of its last failure, without the file's name, which it puts in front.
@@ -73,7 +75,7 @@ impl Library {
         let (remove, read) = (address(library, c"evdisk_remove")?, address(library, c"evdisk_read")?);
         let (breaks, free) = (address(library, c"evdisk_breaks")?, address(library, c"evdisk_free")?);
         let check = address(library, c"evdisk_check")?;
-        let replace = address(library, c"evdisk_replace").ok();
+        let (replace, which) = (address(library, c"evdisk_replace").ok(), address(library, c"evdisk_which").ok());
         // SAFETY: in a build of the manager these names are functions of the types above, which are those of
         // include/evdisk.h, and no address is null.
         unsafe {
@@ -86,6 +88,7 @@ impl Library {
                 breaks: std::mem::transmute::<*mut c_void, Breaks>(breaks),
                 free: std::mem::transmute::<*mut c_void, Free>(free),
                 check: std::mem::transmute::<*mut c_void, Check>(check),
+                which: which.map(|which| std::mem::transmute::<*mut c_void, Which>(which)),
             })
         }
     }
@@ -144,5 +147,16 @@ impl Library {
     pub fn check(&self, cat: &[u8], disk: &[u8]) -> i64 {
         // SAFETY: as said above.
         unsafe { (self.check)(cat.as_ptr(), cat.len(), disk.as_ptr(), disk.len()) }
+    }
+
+    /// Whether the build can list removals.
+    pub fn has_which(&self) -> bool {
+        self.which.is_some()
+    }
+
+    pub fn which(&self, cat: &[u8], n: u64, list: &mut [u16]) -> i64 {
+        let which = self.which.expect("only builds that have it are asked");
+        // SAFETY: as said above.
+        unsafe { which(cat.as_ptr(), cat.len(), n, list.as_mut_ptr(), list.len()) }
     }
 }

@@ -9,6 +9,7 @@ mod builds;
 mod copies;
 #[allow(unsafe_code)]
 mod library;
+mod listing;
 mod markdown;
 mod numbers;
 mod plot;
@@ -22,6 +23,7 @@ mod timing;
 
 use arguments::Task;
 use builds::Build;
+use listing::Listing;
 use removals::Kind;
 use report::Measured;
 use scene::Scene;
@@ -30,11 +32,11 @@ use sides::{Call, Side};
 use std::path::Path;
 use std::process::ExitCode;
 
-/// Times every call on every disk, one disk after another, the block copies, and removals of two kinds. A build takes
-/// part where it has the version.
+/// Times every call on every disk, one disk after another, lists beside removals, the block copies, and removals of two
+/// kinds. A build takes part where it has the version.
 fn measure(builds: Vec<&'static Build>, rounds: usize) -> Measured {
     let that_serve = |version| builds.iter().copied().filter(|build| build.serves(version)).collect::<Vec<_>>();
-    let (mut scenes, mut rows, mut other_layouts) = (Vec::new(), Vec::new(), Vec::new());
+    let (mut scenes, mut rows, mut other_layouts, mut listings) = (Vec::new(), Vec::new(), Vec::new(), Vec::new());
     for shape in Shape::ALL {
         eprintln!("using the disk {} ..", shape.name);
         let mut scene = Scene::used(shape);
@@ -43,6 +45,9 @@ fn measure(builds: Vec<&'static Build>, rounds: usize) -> Measured {
         for call in Call::ALL {
             eprintln!("timing {} on {} ..", call.name(), shape.name);
             rows.push(timing::time_call(&mut scene, scenes.len(), call, &there, rounds));
+        }
+        if listing::is_timed(&shape) {
+            listings.push(Listing::time(&mut scene, rounds));
         }
         scenes.push(scene.facts);
     }
@@ -55,7 +60,7 @@ fn measure(builds: Vec<&'static Build>, rounds: usize) -> Measured {
         (kind, removals)
     };
     let removals = [removals::HALF_FREE, removals::FREE_BUDDIES].map(on_disks).into();
-    Measured { rounds, builds, scenes, rows, other_layouts, copies, removals }
+    Measured { rounds, builds, scenes, rows, other_layouts, listings, copies, removals }
 }
 
 /// Writes the tables and the plot to the documents. It is to be run where the folder `docs` is.
@@ -93,6 +98,7 @@ fn run() -> Result<(), String> {
             if to_documents {
                 write(&measured, &tables)?;
             }
+            measured.listings.iter().try_for_each(Listing::check)?;
         }
     }
     Ok(())

@@ -4,6 +4,7 @@ use crate::agreement::OtherLayout;
 use crate::beside::{beside_part, other_layouts_part, BesideLine};
 use crate::builds::Build;
 use crate::copies::{self, Copies};
+use crate::listing::{Listing, LIMIT};
 use crate::markdown::{blocks, ratio, table, tenths, thousands};
 use crate::removals::{self, Kind, Removal};
 use crate::scene::Facts;
@@ -19,6 +20,7 @@ pub struct Measured {
     pub rows: Vec<Row>,
     /// For each scene the builds whose removal leaves another layout.
     pub other_layouts: Vec<Vec<OtherLayout>>,
+    pub listings: Vec<Listing>,
     pub copies: Vec<Copies>,
     pub removals: Vec<(Kind, Vec<Removal>)>,
 }
@@ -51,6 +53,21 @@ fn scene_table(measured: &Measured, scene: usize) -> String {
     let beside = beside_part(&measured.builds, facts.shape.version, &["call"], &lines, thousands);
     let others = other_layouts_part(&measured.other_layouts[scene]);
     format!("### {}\n\n{}{beside}{others}", scene_text(facts), table(&header, &rows))
+}
+
+/// The table of lists beside removals.
+fn listings_table(listings: &[Listing]) -> String {
+    let header = ["disk", "most", "proved which / remove", "twin which / remove", "which ns", "remove ns"];
+    let row = |listing: &Listing| {
+        let shape = &listing.facts.shape;
+        let disk = format!("{}, {} pairs", disk_text(shape), shape.pairs());
+        let most = if listing.is_limited() { format!("{LIMIT}") } else { "-".into() };
+        let (proved, twin) = (&listing.proved, &listing.twin);
+        let times = [proved.list, proved.removal].map(|time| thousands(time.median));
+        [vec![disk, most, ratio(proved.ratio), ratio(twin.ratio)], times.into()].concat()
+    };
+    let rows: Vec<_> = listings.iter().map(row).collect();
+    format!("### All removals of 64 files listed, beside one removal\n\n{}", table(&header, &rows))
 }
 
 /// The tables of block copies.
@@ -130,7 +147,8 @@ fn noise(rows: &[Row]) -> String {
 fn effort(rounds: usize) -> String {
     format!(
         "{rounds} rounds. A batch has {} calls, or as many as move {} pages together, and at least one; for the\n\
-         second implementation, which may fill a map of all blocks, the blocks of the disk count like pages.\n",
+         second implementation, which may fill a map of all blocks, and for a list one for each file, the blocks of the\n\
+         disk count like pages.\n",
         timing::BATCH,
         thousands(timing::BATCH_PAGES as f64)
     )
@@ -139,6 +157,7 @@ fn effort(rounds: usize) -> String {
 /// All tables.
 pub fn text(measured: &Measured) -> String {
     let mut parts: Vec<String> = (0..measured.scenes.len()).map(|scene| scene_table(measured, scene)).collect();
+    parts.push(listings_table(&measured.listings));
     parts.push(copies_table(&measured.builds, &measured.copies));
     parts.extend(measured.removals.iter().map(|(kind, removals)| removals_table(&measured.builds, kind, removals)));
     parts.push(effort(measured.rounds) + &noise(&measured.rows));

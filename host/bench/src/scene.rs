@@ -4,7 +4,7 @@ use crate::numbers::Numbers;
 use crate::shape::Shape;
 use crate::sides::{Call, Lent, Letter};
 use model::BlockMap;
-use twin::BLOCK;
+use twin::{BLOCK, MOST_FILES};
 
 /// What is told of a scene.
 #[derive(Clone, Copy, Debug)]
@@ -33,6 +33,9 @@ pub struct Scene {
     letter: usize,
     content: Vec<u8>,
     out: Vec<u8>,
+    /// One block more than is free, so that the removal of each file is listed.
+    wanted: u64,
+    list: Vec<u16>,
 }
 
 impl Scene {
@@ -51,7 +54,9 @@ impl Scene {
         let letter = first_block(&with, id) * BLOCK + LETTER;
         disk[letter] = RAW;
         let out = vec![0; content.len()];
-        Scene { facts: Facts { shape, copied, id }, with, without, disk, letter, content, out }
+        let wanted = twin::free(&with).expect("the catalogue is sound") + 1;
+        let list = vec![0; MOST_FILES];
+        Scene { facts: Facts { shape, copied, id }, with, without, disk, letter, content, out, wanted, list }
     }
 
     /// The catalogue that a call starts from, and its other buffers. An add puts the file of the id back, which is
@@ -60,7 +65,8 @@ impl Scene {
         let start = if call == Call::Add { &self.without } else { &self.with };
         let out = if call == Call::ReadPage { &mut self.out[..BLOCK] } else { &mut self.out[..] };
         let raw = (call == Call::Replace).then_some(Letter { place: self.letter, letter: RAW });
-        (start, Lent { disk: &mut self.disk, raw, content: &self.content, out, id: self.facts.id })
+        let (wanted, list) = (self.wanted, &mut self.list[..]);
+        (start, Lent { disk: &mut self.disk, raw, content: &self.content, out, id: self.facts.id, wanted, list })
     }
 }
 
@@ -127,6 +133,20 @@ mod tests {
                 let mut batch = Batch::new(&mut scene, call);
                 assert!(Side::ALL.into_iter().all(|side| batch.time(side) >= 0.0));
             }
+        }
+    }
+
+    /// The list has every file, those with fewest copies first, and the one that is removed is among the last of them.
+    #[test]
+    fn all_files_are_listed() {
+        for name in ["261-8", "261-8-large", "261-64", "4095-64"] {
+            let mut scene = Scene::used(Shape::named(name).expect("it is a disk"));
+            let files = scene.facts.shape.files;
+            let (start, lent) = scene.lend(Call::Which);
+            assert_eq!(twin::which(start, lent.wanted, lent.list), Ok(files as u64), "{name}");
+            let copies = |id: &u16| model::removal_copies(start, lent.disk, *id).expect("it is there").len() as u64;
+            let copied: Vec<u64> = lent.list[..files].iter().map(copies).collect();
+            assert!(copied.is_sorted() && copied.last() == Some(&scene.facts.copied), "{name}: {copied:?}");
         }
     }
 

@@ -1,7 +1,7 @@
 //! What is timed: one call with its buffers, on one of the implementations.
 
 use crate::builds::{answer, Build};
-use event_disk::Refusal;
+use event_disk::{Refusal, Which};
 
 /// An implementation. The proved one stands twice, so that the ratio of its two series shows the noise of the run. Other
 /// builds of the manager are there if they are asked for.
@@ -41,10 +41,11 @@ pub enum Call {
     Breaks,
     Free,
     Check,
+    Which,
 }
 
 impl Call {
-    pub const ALL: [Call; 9] = [
+    pub const ALL: [Call; 10] = [
         Call::Format,
         Call::Add,
         Call::Remove,
@@ -54,6 +55,7 @@ impl Call {
         Call::Breaks,
         Call::Free,
         Call::Check,
+        Call::Which,
     ];
 
     pub fn name(self) -> &'static str {
@@ -67,6 +69,7 @@ impl Call {
             Call::Breaks => "breaks",
             Call::Free => "free",
             Call::Check => "check",
+            Call::Which => "which",
         }
     }
 
@@ -95,6 +98,9 @@ pub struct Lent<'a> {
     pub content: &'a [u8],
     pub out: &'a mut [u8],
     pub id: u16,
+    /// The blocks for which removals are listed, and the list.
+    pub wanted: u64,
+    pub list: &'a mut [u16],
 }
 
 impl Lent<'_> {
@@ -126,6 +132,15 @@ fn on_proved(call: Call, cat: &mut [u8], lent: &mut Lent) -> Result<u64, Refusal
         Call::Breaks => event_disk::breaks(cat, lent.id),
         Call::Free => event_disk::free(cat),
         Call::Check => event_disk::check(cat, lent.disk),
+        Call::Which => event_disk::which(cat, lent.wanted, lent.list).map(number),
+    }
+}
+
+/// The number of an answer of which.
+fn number(answer: Which) -> u64 {
+    match answer {
+        Which::FitsAlready => twin::FITS_ALREADY,
+        Which::Removals(count) => count as u64,
     }
 }
 
@@ -139,6 +154,7 @@ fn on_twin(call: Call, cat: &mut [u8], lent: &mut Lent) -> Result<u64, u8> {
         Call::Breaks => twin::breaks(cat, lent.id),
         Call::Free => twin::free(cat),
         Call::Check => twin::check(cat, lent.disk),
+        Call::Which => twin::which(cat, lent.wanted, lent.list),
     }
 }
 
@@ -152,6 +168,7 @@ fn on_model(call: Call, cat: &mut [u8], lent: &mut Lent) -> Result<u64, u8> {
         Call::Breaks => model::breaks(cat, lent.id),
         Call::Free => model::free(cat),
         Call::Check => model::check(cat, lent.disk),
+        Call::Which => model::which(cat, lent.wanted, lent.list),
     }
 }
 
@@ -165,5 +182,6 @@ fn on_build(build: &Build, call: Call, cat: &mut [u8], lent: &mut Lent) -> i64 {
         Call::Breaks => build.calls.breaks(cat, lent.id),
         Call::Free => build.calls.free(cat),
         Call::Check => build.calls.check(cat, lent.disk),
+        Call::Which => build.calls.which(cat, lent.wanted, lent.list),
     }
 }

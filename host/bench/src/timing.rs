@@ -16,10 +16,15 @@ pub const BATCH_PAGES: usize = 1 << 16;
 /// The first rounds fill caches and are not counted.
 const WARM_UP: usize = 3;
 
-/// The calls of a batch. At each call the second implementation may fill a map of all blocks, which count like pages.
+/// The calls of a batch. At each call the second implementation may fill a map of all blocks, which count like pages,
+/// and at a list one for each file.
 pub fn batch_of(side: Side, call: Call, shape: &Shape) -> usize {
     let pages = call.pages(shape.file_blocks);
-    let moved = if side == Side::Model { pages.max(shape.blocks) } else { pages };
+    let moved = match (side, call) {
+        (Side::Model, Call::Which) => shape.files * shape.blocks,
+        (Side::Model, _) => pages.max(shape.blocks),
+        _ => pages,
+    };
     (BATCH_PAGES / moved).clamp(1, BATCH)
 }
 
@@ -95,7 +100,7 @@ impl<'a> Batch<'a> {
 /// The nanoseconds of one removal of the file with id 1, and its answer.
 pub fn time_removal(side: Side, cat: &[u8], disk: &mut [u8]) -> (f64, Result<u64, u8>) {
     let mut cat = cat.to_vec();
-    let mut lent = Lent { disk, raw: None, content: &[], out: &mut [], id: 1 };
+    let mut lent = Lent { disk, raw: None, content: &[], out: &mut [], id: 1, wanted: 0, list: &mut [] };
     let clock = Instant::now();
     let answer = black_box(make(side, Call::Remove, black_box(&mut cat), &mut lent));
     (clock.elapsed().as_nanos() as f64, answer)
@@ -178,8 +183,12 @@ mod tests {
     fn calls_that_move_many_pages_have_smaller_batches() {
         let batch = |side, call, name| batch_of(side, call, &Shape::named(name).expect("it is a disk"));
         for small in ["261-8", "261-64", "4096-8", "4095-64"] {
-            assert!(Call::ALL.iter().all(|&call| batch(Side::Model, call, small) == BATCH));
+            let mut one_map = Call::ALL.into_iter().filter(|&call| call != Call::Which);
+            assert!(one_map.all(|call| batch(Side::Model, call, small) == BATCH));
         }
+        let lists = ["261-8", "261-64", "4096-8", "4095-64"].map(|small| batch(Side::Model, Call::Which, small));
+        assert_eq!(lists, [BATCH, 3, 2, 1]);
+        assert_eq!(batch(Side::Twin, Call::Which, "1048576-64"), BATCH);
         assert_eq!(batch(Side::Twin, Call::Free, "1048576-8"), BATCH);
         assert_eq!(batch(Side::Twin, Call::Add, "1048576-8"), 1);
         assert_eq!(batch(Side::Twin, Call::Replace, "1048576-64"), 2);

@@ -45,9 +45,9 @@ impl Arguments {
             None => (&*text, None),
         };
         let wrong = |why: &str| command.misused(&format!("{name} {why}"));
-        let (name_kept, value) = if let Some(flag) = command.flags.iter().find(|flag| **flag == name) {
+        let (name_kept, value) = if let Some(flag) = command.flags.iter().copied().find(|flag| *flag == name) {
             joined.is_none().then_some((flag, OsString::new())).ok_or_else(|| wrong("takes no value"))?
-        } else if let Some((option, _)) = command.valued.iter().find(|(option, _)| *option == name) {
+        } else if let Some((option, _)) = command.with_value().find(|(option, _)| *option == name) {
             let value = joined.or_else(|| words.next().cloned());
             (option, value.ok_or_else(|| wrong("needs a value"))?)
         } else {
@@ -59,12 +59,14 @@ impl Arguments {
         }
     }
 
-    /// These arguments, if they are as many as the command has places.
+    /// These arguments, if they are as many as the command has places, or one less with an option instead of the last.
     fn counted(self, command: &Command) -> Result<Arguments, Failure> {
-        if let Some(missing) = command.places.get(self.places.len()) {
+        let instead = command.instead.filter(|(option, _)| self.has(option));
+        let places = &command.places[..command.places.len() - instead.iter().count()];
+        if let Some(missing) = places.get(self.places.len()) {
             return Err(command.misused(&format!("{missing} is missing")));
         }
-        match self.places.get(command.places.len()) {
+        match self.places.get(places.len()) {
             None => Ok(self),
             Some(extra) => Err(command.misused(&format!("'{}' is too much", extra.display()))),
         }
@@ -82,6 +84,11 @@ impl Arguments {
         id.ok_or_else(|| Failure::usage(format!("'{}' is no id: an id is a number from 1 to 65535", word.display())))
     }
 
+    /// The number of blocks in the second place, unless an option stands instead.
+    pub fn blocks(&self) -> Result<Option<u64>, Failure> {
+        self.places.get(1).map(|word| number(word, "N")).transpose()
+    }
+
     /// The file in the third place.
     pub fn file(&self) -> &Path {
         Path::new(&self.places[2])
@@ -92,11 +99,9 @@ impl Arguments {
         self.options.contains_key(name)
     }
 
-    /// The number that an option gives, if it is there. One too large to count is as large as can be counted.
+    /// The number that an option gives, if it is there.
     pub fn number(&self, name: &str) -> Result<Option<u64>, Failure> {
-        let Some(word) = self.options.get(name) else { return Ok(None) };
-        let number = digits(word).ok_or_else(|| Failure::usage(format!("{name}: '{}' is no number", word.display())));
-        number.map(Some)
+        self.options.get(name).map(|word| number(word, name)).transpose()
     }
 
     /// The file that an option names, if it is there.
@@ -116,6 +121,11 @@ fn after_equals(word: &OsStr) -> OsString {
     let bytes = word.as_bytes();
     let at = bytes.iter().position(|byte| *byte == b'=').map_or(bytes.len(), |at| at + 1);
     OsStr::from_bytes(&bytes[at..]).to_os_string()
+}
+
+/// The number that a word is. One too large to count is as large as can be counted.
+fn number(word: &OsStr, name: &str) -> Result<u64, Failure> {
+    digits(word).ok_or_else(|| Failure::usage(format!("{name}: '{}' is no number", word.display())))
 }
 
 /// The number that decimal digits stand for, and nothing but digits.

@@ -2,13 +2,15 @@
 
 use crate::arguments::Arguments;
 use crate::commit::{self, go_on};
+use crate::event_file::EventFile;
 use crate::json::Json;
 use crate::paths::Paths;
+use crate::removal::{event, Removal};
 use crate::shift_log::Line;
 use crate::store::{self, Store};
 use crate::table::{blocks_of, copies, counted, lying};
-use crate::{date, files, Failure};
-use event_disk::{carries, File as Event, Listing, Refusal, Version, BLOCK};
+use crate::{date, files, which, Failure};
+use event_disk::{Listing, Refusal, Version, BLOCK};
 use std::io::Write;
 use std::path::Path;
 
@@ -98,8 +100,15 @@ pub fn add(arguments: &Arguments, out: &mut Vec<u8>) -> Result<(), Failure> {
     let store = Store::to_change(arguments.paths())?;
     // An add reads no block and writes those of the new event alone, so no other has to be read from the image.
     let mut disk = store.unread()?;
-    let content = content(arguments.file(), event_disk::free(&disk.catalogue).unwrap_or(0))?;
-    let answer = event_disk::add(&mut disk.catalogue, &mut disk.blocks, id, &content)?;
+    let file = EventFile::open(arguments.file())?;
+    let content = file.content(event_disk::free(&disk.catalogue).unwrap_or(0))?;
+    let answer = match event_disk::add(&mut disk.catalogue, &mut disk.blocks, id, &content) {
+        Err(Refusal::NoSpace) => {
+            let most = (disk.blocks.len() / BLOCK) as u64;
+            return Err(which::no_space(&mut disk, file.blocks(content.len(), most).unwrap_or(0)));
+        }
+        answer => answer?,
+    };
     let listing = event_disk::list(&disk.catalogue)?;
     let pieces = event(&listing, id).in_page_order();
     commit::add(&store.paths, &store.image, &disk.blocks_of(&pieces), &disk.catalogue, &mut go_on)?;
@@ -107,56 +116,38 @@ pub fn add(arguments: &Arguments, out: &mut Vec<u8>) -> Result<(), Failure> {
     say(arguments, out, &format!("added {id}: {}", lying(event(&listing, id))), Json::Object(json.into()))
 }
 
-/// The bytes of an event's file. Of one with more blocks than there is room for only so much is read as gives the same
-/// refusal: a block more than that, so at least the first, and the same bytes past whole blocks.
-pub fn content(path: &Path, room: u64) -> Result<Vec<u8>, Failure> {
-    let file = files::open(path)?;
-    let about = file.metadata().map_err(|why| Failure::file(path, why))?;
-    let block = BLOCK as u64;
-    files::read_at_most(&file, path, (room + 1) * block + about.len() % block)
-}
-
-/// The event with an id that is known to be there.
-pub fn event(listing: &Listing, id: u16) -> &Event {
-    listing.files.iter().find(|event| event.id == id).expect("the call answered, so the id is there")
-}
-
 /// `evdisk remove`.
 pub fn remove(arguments: &Arguments, out: &mut Vec<u8>) -> Result<(), Failure> {
     let id = arguments.id()?;
+    if arguments.has("--dry-run") {
+        return try_removal(arguments, id, out);
+    }
     let store = Store::to_change(arguments.paths())?;
-    let (line, _) = shift(&store, id, |cat, blocks| event_disk::remove(cat, blocks, id))?;
-    say(arguments, out, &format!("removed {id}: {}", copies(&line)), removal_json(&line, false))
+    let (removal, _) = shift(&store, id, |cat, blocks| event_disk::remove(cat, blocks, id))?;
+    say(arguments, out, &format!("removed {id}: {}", copies(&removal)), Json::Object(removal.json()))
 }
 
-/// Does a call that removes an event, for good or to put another in its place, and has it last. Gives its line of the
-/// shift log, and what the catalogue lists afterwards.
+/// `evdisk remove --dry-run`: says what the removal would do, and does nothing of it.
+fn try_removal(arguments: &Arguments, id: u16, out: &mut Vec<u8>) -> Result<(), Failure> {
+    let mut disk = Store::to_look(arguments.paths())?.unread()?;
+    let removal = Removal::tried(&disk.catalogue, &mut disk.blocks, id)?;
+    let json = removal.json().into_iter().chain([("dry_run", Json::Truth(true))]).collect();
+    say(arguments, out, &format!("would remove {id}: {}", copies(&removal)), Json::Object(json))
+}
+
+/// Does a call that removes an event, for good or to put another in its place, and has it last, with a line in the
+/// shift log. Gives the removal, and what the catalogue lists afterwards.
 pub fn shift(
     store: &Store,
     id: u16,
     call: impl FnOnce(&mut [u8], &mut [u8]) -> Result<u64, Refusal>,
-) -> Result<(Line, Listing), Failure> {
+) -> Result<(Removal, Listing), Failure> {
     let mut disk = store.whole()?;
     let before = disk.catalogue.clone();
     let copied = call(&mut disk.catalogue, &mut disk.blocks)?;
-    let listing = event_disk::list(&before)?;
-    let blocks = u64::from(event(&listing, id).blocks);
-    let limit = carries(u64::from(listing.free), blocks);
-    let line = Line { date: date::now(), id, blocks, copied, limit };
-    let text = line.text();
+    let removal = Removal::of(&event_disk::list(&before)?, id, copied);
+    let text = Line { date: date::now(), removal }.text();
     let redo = commit::written_down(&store.paths, &store.image, &before, &disk, &text)?;
     commit::shift(&store.paths, &store.image, &redo, &mut go_on)?;
-    Ok((line, event_disk::list(&disk.catalogue)?))
-}
-
-/// The JSON of a removal, or of what a replacement removed, with its date where it comes from the shift log.
-pub fn removal_json(line: &Line, dated: bool) -> Json {
-    let date = dated.then(|| ("date", Json::Text(line.date.clone())));
-    let numbers = [
-        ("id", Json::number(line.id)),
-        ("blocks", Json::number(line.blocks)),
-        ("copied", Json::number(line.copied)),
-        ("limit", Json::number(line.limit)),
-    ];
-    Json::Object(date.into_iter().chain(numbers).collect())
+    Ok((removal, event_disk::list(&disk.catalogue)?))
 }

@@ -1,7 +1,7 @@
 //! The commands: their names, their arguments, their help and what does them.
 
 use crate::arguments::Arguments;
-use crate::{changing, help, looking, replacing, Failure};
+use crate::{changing, help, looking, replacing, which, Failure};
 use std::ffi::{OsStr, OsString};
 
 /// A command of the tool.
@@ -10,6 +10,8 @@ pub struct Command {
     pub name: &'static str,
     /// The arguments that must stand, in order.
     pub places: &'static [&'static str],
+    /// The option with a value, and what the value is, that may stand instead of the last of them.
+    pub instead: Option<(&'static str, &'static str)>,
     /// The options with a value, and what the value is.
     pub valued: &'static [(&'static str, &'static str)],
     /// The options without a value.
@@ -23,10 +25,11 @@ pub struct Command {
 }
 
 /// All commands, in the order of the help.
-pub static COMMANDS: [Command; 11] = [
+pub static COMMANDS: [Command; 12] = [
     Command {
         name: "format",
         places: &["IMAGE"],
+        instead: None,
         valued: &[("--blocks", "C")],
         flags: &["--large", "--force", "--json"],
         short: "make a disk of C blocks with no file",
@@ -36,6 +39,7 @@ pub static COMMANDS: [Command; 11] = [
     Command {
         name: "add",
         places: &["IMAGE", "ID", "FILE"],
+        instead: None,
         valued: &[],
         flags: &["--json"],
         short: "add the event in FILE",
@@ -45,8 +49,9 @@ pub static COMMANDS: [Command; 11] = [
     Command {
         name: "remove",
         places: &["IMAGE", "ID"],
+        instead: None,
         valued: &[],
-        flags: &["--json"],
+        flags: &["--dry-run", "--json"],
         short: "remove an event and join free space",
         long: help::REMOVE,
         does: changing::remove,
@@ -54,6 +59,7 @@ pub static COMMANDS: [Command; 11] = [
     Command {
         name: "replace",
         places: &["IMAGE", "ID", "FILE"],
+        instead: None,
         valued: &[],
         flags: &["--json"],
         short: "put the reviewed event in FILE in the place of the raw one",
@@ -63,6 +69,7 @@ pub static COMMANDS: [Command; 11] = [
     Command {
         name: "read",
         places: &["IMAGE", "ID"],
+        instead: None,
         valued: &[("--first", "P"), ("--pages", "N"), ("--output", "FILE")],
         flags: &[],
         short: "write pages of an event to standard output or to a file",
@@ -72,6 +79,7 @@ pub static COMMANDS: [Command; 11] = [
     Command {
         name: "list",
         places: &["IMAGE"],
+        instead: None,
         valued: &[],
         flags: &["--json"],
         short: "list the events, the free blocks and where they lie",
@@ -81,6 +89,7 @@ pub static COMMANDS: [Command; 11] = [
     Command {
         name: "breaks",
         places: &["IMAGE", "ID"],
+        instead: None,
         valued: &[],
         flags: &["--json"],
         short: "say in how many pieces an event lies, less one",
@@ -90,6 +99,7 @@ pub static COMMANDS: [Command; 11] = [
     Command {
         name: "free",
         places: &["IMAGE"],
+        instead: None,
         valued: &[],
         flags: &["--json"],
         short: "say how many blocks are free",
@@ -97,8 +107,19 @@ pub static COMMANDS: [Command; 11] = [
         does: looking::free,
     },
     Command {
+        name: "which",
+        places: &["IMAGE", "N"],
+        instead: Some(("--file", "FILE")),
+        valued: &[],
+        flags: &["--json"],
+        short: "list the removals of which one would make room for N blocks, or for the event in FILE",
+        long: help::WHICH,
+        does: which::which,
+    },
+    Command {
         name: "check",
         places: &["IMAGE"],
+        instead: None,
         valued: &[],
         flags: &["--json"],
         short: "check that the catalogue is sound and fits the image",
@@ -108,6 +129,7 @@ pub static COMMANDS: [Command; 11] = [
     Command {
         name: "map",
         places: &["IMAGE"],
+        instead: None,
         valued: &[("--width", "W"), ("--svg", "FILE")],
         flags: &[],
         short: "draw the disk",
@@ -117,6 +139,7 @@ pub static COMMANDS: [Command; 11] = [
     Command {
         name: "log",
         places: &["IMAGE"],
+        instead: None,
         valued: &[],
         flags: &["--json"],
         short: "show the shift log: what each removal and replacement copied",
@@ -143,10 +166,18 @@ impl Command {
         (self.does)(&Arguments::of_words(self, words)?, out)
     }
 
+    /// The options with a value.
+    pub fn with_value(&self) -> impl Iterator<Item = (&'static str, &'static str)> {
+        self.instead.into_iter().chain(self.valued.iter().copied())
+    }
+
     /// How the command is written.
     pub fn usage(&self) -> String {
         let mut words = vec!["evdisk".to_string(), self.name.to_string()];
         words.extend(self.places.iter().map(|place| place.to_string()));
+        if let (Some((option, value)), Some(last)) = (self.instead, words.last_mut()) {
+            *last = format!("({last} | {option} {value})");
+        }
         words.extend(self.valued.iter().map(|(option, value)| format!("[{option} {value}]")));
         words.extend(self.flags.iter().map(|flag| format!("[{flag}]")));
         words.join(" ")

@@ -15,13 +15,15 @@ An image that is there is only formatted with --force: its blocks keep their byt
 events on it are given up.";
 
 pub const ADD: &str = "\
-FILE is one or more records of 512 bytes. Says in which pieces the event lies, as (first block,length), in page order.";
+FILE is one or more records of 512 bytes. Says in which pieces the event lies, as (first block,length), in page order.
+If there is no space it names the event whose removal would make room with the fewest copied blocks.";
 
 pub const REMOVE: &str = "\
 Says how many blocks were copied to join free space, and the contract's limit for this removal: the sum of the place
 values at which free blocks plus the event's blocks carry in binary. A line with both goes to the shift log. Only blocks
 that events hold are copied. Two free sections that are the halves of a longer one are joined first, without a copy:
-that mostly saves copies, but not at every removal, and the limit is what holds.";
+that mostly saves copies, but not at every removal, and the limit is what holds. With --dry-run it only says what the
+removal would copy, and nothing is changed.";
 
 pub const REPLACE: &str = "\
 FILE is one or more records of 512 bytes, not necessarily as many as the old event has. Byte 6 of a record, counted from
@@ -40,6 +42,11 @@ Pieces are written as (first block,length); those of an event stand in page orde
 pub const BREAKS: &str = "Reads the catalogue only.";
 
 pub const FREE: &str = "Reads the catalogue only.";
+
+pub const WHICH: &str = "\
+For each event whose removal alone is enough it gives the event's blocks, the blocks that the removal would copy and the
+contract's limit: fewest copies first, equal counts by lower id. Says so if there is room already, or if no single
+removal is enough. FILE is one or more records of 512 bytes. Reads the catalogue only.";
 
 pub const CHECK: &str = "\
 Says the number of blocks if the catalogue is sound and the image as long as it says; is refused otherwise.";

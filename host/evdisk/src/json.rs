@@ -6,6 +6,7 @@ use std::fmt;
 /// A value of JSON.
 pub enum Json {
     Number(u64),
+    Truth(bool),
     Text(String),
     List(Vec<Json>),
     Object(Vec<(&'static str, Json)>),
@@ -29,6 +30,7 @@ impl fmt::Display for Json {
     fn fmt(&self, f: &mut fmt::Formatter<'_>) -> fmt::Result {
         match self {
             Json::Number(number) => write!(f, "{number}"),
+            Json::Truth(truth) => write!(f, "{truth}"),
             Json::Text(text) => write_text(f, text),
             Json::List(values) => {
                 f.write_str("[")?;
@@ -78,6 +80,7 @@ mod tests {
         let value = Json::Object(vec![("free", Json::number(5u64)), ("pieces", pieces), ("none", Json::List(vec![]))]);
         let text = r#"{"free":5,"pieces":[{"first":0,"length":4},{"first":6,"length":1}],"none":[]}"#;
         assert_eq!(value.to_string(), text);
+        assert_eq!(Json::List([true, false].map(Json::Truth).into()).to_string(), "[true,false]");
     }
 
     #[test]

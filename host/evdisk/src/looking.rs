@@ -1,8 +1,9 @@
 //! The commands that only look at a disk: read, list, breaks, free, check, map and log.
 
 use crate::arguments::Arguments;
-use crate::changing::{blocks_json, removal_json, say};
+use crate::changing::{blocks_json, say};
 use crate::json::Json;
+use crate::shift_log::Line;
 use crate::store::Store;
 use crate::table::{self, blocks_of, counted};
 use crate::{files, map, shift_log, svg, Failure};
@@ -105,6 +106,9 @@ fn colours() -> bool {
 pub fn log(arguments: &Arguments, out: &mut Vec<u8>) -> Result<(), Failure> {
     let store = Store::to_look(arguments.paths())?;
     let lines = shift_log::read(&store.paths.log)?;
-    let json = Json::List(lines.iter().map(|line| removal_json(line, true)).collect());
-    say(arguments, out, table::shift_log(&lines).trim_end(), json)
+    let json = |line: &Line| {
+        let date = ("date", Json::Text(line.date.clone()));
+        Json::Object([date].into_iter().chain(line.removal.json()).collect())
+    };
+    say(arguments, out, table::shift_log(&lines).trim_end(), Json::List(lines.iter().map(json).collect()))
 }

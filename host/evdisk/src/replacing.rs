@@ -1,8 +1,10 @@
 //! The command that puts a reviewed event in the place of the raw one: a removal and an add in one step.
 
 use crate::arguments::Arguments;
-use crate::changing::{content, event, say, shift};
+use crate::changing::{say, shift};
+use crate::event_file::EventFile;
 use crate::json::Json;
+use crate::removal::event;
 use crate::store::Store;
 use crate::table::{copies, lying};
 use crate::Failure;
@@ -11,17 +13,17 @@ use crate::Failure;
 pub fn replace(arguments: &Arguments, out: &mut Vec<u8>) -> Result<(), Failure> {
     let id = arguments.id()?;
     let store = Store::to_change(arguments.paths())?;
-    let content = content(arguments.file(), room(&store.catalogue()?, id))?;
+    let content = EventFile::open(arguments.file())?.content(room(&store.catalogue()?, id))?;
     let call = |cat: &mut [u8], blocks: &mut [u8]| event_disk::replace(cat, blocks, id, &content);
-    let (line, after) = shift(&store, id, call)?;
+    let (removal, after) = shift(&store, id, call)?;
     let new = event(&after, id);
-    let words = format!("replaced {id}: {}; {}", copies(&line), lying(new));
+    let words = format!("replaced {id}: {}; {}", copies(&removal), lying(new));
     let json = [
         ("id", Json::number(id)),
         ("blocks", Json::number(new.blocks)),
-        ("replaced", Json::number(line.blocks)),
-        ("copied", Json::number(line.copied)),
-        ("limit", Json::number(line.limit)),
+        ("replaced", Json::number(removal.blocks)),
+        ("copied", Json::number(removal.copied)),
+        ("limit", Json::number(removal.limit)),
         ("pieces", Json::pieces(&new.in_page_order())),
     ];
     say(arguments, out, &words, Json::Object(json.into()))

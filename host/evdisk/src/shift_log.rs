@@ -1,6 +1,7 @@
 //! The shift log: one line for each removal, with the blocks that it copied and the contract's limit for it. A
 //! replacement has the line of its removal.
 
+use crate::removal::Removal;
 use crate::{files, Failure};
 use std::fs::{File, OpenOptions};
 use std::path::Path;
@@ -10,20 +11,14 @@ use std::path::Path;
 pub struct Line {
     /// When the file was removed or replaced.
     pub date: String,
-    /// The file's id.
-    pub id: u16,
-    /// The blocks of the file that was removed.
-    pub blocks: u64,
-    /// The blocks that the removal copied.
-    pub copied: u64,
-    /// The most that the contract lets it copy.
-    pub limit: u64,
+    /// The removal.
+    pub removal: Removal,
 }
 
 impl Line {
     /// The line as it stands in the log.
     pub fn text(&self) -> String {
-        let Line { date, id, blocks, copied, limit } = self;
+        let Line { date, removal: Removal { id, blocks, copied, limit } } = self;
         format!("{date} id {id} blocks {blocks} copied {copied} limit {limit}\n")
     }
 
@@ -33,13 +28,13 @@ impl Line {
         let [date, "id", id, "blocks", blocks, "copied", copied, "limit", limit] = words[..] else {
             return None;
         };
-        Some(Line {
-            date: date.to_string(),
+        let removal = Removal {
             id: id.parse().ok()?,
             blocks: blocks.parse().ok()?,
             copied: copied.parse().ok()?,
             limit: limit.parse().ok()?,
-        })
+        };
+        Some(Line { date: date.to_string(), removal })
     }
 }
 
@@ -88,7 +83,8 @@ mod tests {
 
     #[test]
     fn a_line_is_read_as_it_was_written() {
-        let line = Line { date: "2026-01-31T23:59:00Z".to_string(), id: 5, blocks: 3, copied: 1, limit: 2 };
+        let removal = Removal { id: 5, blocks: 3, copied: 1, limit: 2 };
+        let line = Line { date: "2026-01-31T23:59:00Z".to_string(), removal };
         assert_eq!(line.text(), "2026-01-31T23:59:00Z id 5 blocks 3 copied 1 limit 2\n");
         assert_eq!(Line::of_text(line.text().trim_end()), Some(line));
         assert_eq!(Line::of_text("2026-01-31T23:59:00Z id 5 blocks 3 copied 1"), None);

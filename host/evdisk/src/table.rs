@@ -1,6 +1,7 @@
-//! A catalogue and a shift log as tables to read.
+//! A catalogue, removals and a shift log as tables to read.
 
 use crate::json::Json;
+use crate::removal::Removal;
 use crate::shift_log::Line;
 use event_disk::{File, Listing, Piece, Version};
 
@@ -33,9 +34,9 @@ pub fn lying(event: &File) -> String {
     format!("{blocks} in {}: {}", counted(pieces.len() as u64, "piece"), places(&pieces))
 }
 
-/// What a removal, or that of a replacement, copied, and what the contract lets it copy.
-pub fn copies(line: &Line) -> String {
-    format!("{} copied (contract limit {})", counted(line.copied, "block"), line.limit)
+/// What a removal, or that of a replacement, copies, and what the contract lets it copy.
+pub fn copies(removal: &Removal) -> String {
+    format!("{} copied (contract limit {})", counted(removal.copied, "block"), removal.limit)
 }
 
 /// The breaks of a file: its pieces less one.
@@ -77,20 +78,27 @@ pub fn listing_json(listing: &Listing) -> Json {
     ])
 }
 
+/// Removals in columns: a line with their names, of which one is given, and a line for each removal.
+fn rows(removals: &[Removal], copied: &str) -> Vec<String> {
+    let greatest = removals.iter().flat_map(|removal| [removal.blocks, removal.copied, removal.limit]).max();
+    let wide = width(greatest.unwrap_or(0), 6);
+    let names = format!("{:>5}  {:>wide$}  {copied:>wide$}  {:>wide$}\n", "id", "blocks", "limit");
+    let row = |Removal { id, blocks, copied, limit }: &Removal| {
+        format!("{id:>5}  {blocks:>wide$}  {copied:>wide$}  {limit:>wide$}\n")
+    };
+    [names].into_iter().chain(removals.iter().map(row)).collect()
+}
+
+/// Removals that are not done, a line for each.
+pub fn removals(removals: &[Removal]) -> String {
+    rows(removals, "copies").concat()
+}
+
 /// The removals of a shift log, those of replacements too, a line for each.
 pub fn shift_log(lines: &[Line]) -> String {
-    let greatest = lines.iter().flat_map(|line| [line.blocks, line.copied, line.limit]).max();
-    let wide = width(greatest.unwrap_or(0), 6);
-    let row = |date: &str, id: &str, numbers: [&str; 3]| {
-        let [blocks, copied, limit] = numbers;
-        format!("{date:<20}  {id:>5}  {blocks:>wide$}  {copied:>wide$}  {limit:>wide$}\n")
-    };
-    let mut text = row("date", "id", ["blocks", "copied", "limit"]);
-    for Line { date, id, blocks, copied, limit } in lines {
-        let numbers = [blocks, copied, limit].map(u64::to_string);
-        text += &row(date, &id.to_string(), numbers.each_ref().map(String::as_str));
-    }
-    text
+    let removals: Vec<Removal> = lines.iter().map(|line| line.removal).collect();
+    let dates = ["date"].into_iter().chain(lines.iter().map(|line| line.date.as_str()));
+    dates.zip(rows(&removals, "copied")).map(|(date, row)| format!("{date:<20}  {row}")).collect()
 }
 
 #[cfg(test)]
@@ -140,7 +148,8 @@ mod tests {
     #[test]
     fn the_shift_log_stands_in_columns() {
         let date = "2026-01-31T23:59:00Z".to_string();
-        let text = shift_log(&[Line { date, id: 65535, blocks: 1000, copied: 12, limit: 40 }]);
+        let removal = Removal { id: 65535, blocks: 1000, copied: 12, limit: 40 };
+        let text = shift_log(&[Line { date, removal }]);
         let lines: Vec<&str> = text.lines().collect();
         assert_eq!(lines[1], "2026-01-31T23:59:00Z  65535    1000      12      40");
         assert_eq!(lines[0], "date                     id  blocks  copied   limit");
@@ -148,11 +157,14 @@ mod tests {
 
     #[test]
     fn the_shift_log_of_a_large_disk_stands_in_columns() {
-        let line = |blocks| Line { date: "2026-01-31T23:59:00Z".to_string(), id: 1, blocks, copied: 0, limit: 0 };
+        let removal = |blocks| Removal { id: 1, blocks, copied: 0, limit: 0 };
+        let line = |blocks| Line { date: "2026-01-31T23:59:00Z".to_string(), removal: removal(blocks) };
         let text = shift_log(&[line(1 << 20), line(3)]);
         let lines: Vec<&str> = text.lines().collect();
         assert_eq!(lines[0], "date                     id   blocks   copied    limit");
         assert_eq!(lines[1], "2026-01-31T23:59:00Z      1  1048576        0        0");
         assert_eq!(lines[2], "2026-01-31T23:59:00Z      1        3        0        0");
+        let text = removals(&[removal(1 << 20)]);
+        assert_eq!(text, "   id   blocks   copies    limit\n    1  1048576        0        0\n");
     }
 }

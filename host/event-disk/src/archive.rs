@@ -47,3 +47,8 @@ pub fn check(cat: &[u8], disk: &[u8]) -> i64 {
     // SAFETY: as said above.
     unsafe { exports::evdisk_check(cat.as_ptr(), cat.len(), disk.as_ptr(), disk.len()) }
 }
+
+pub fn which(cat: &[u8], n: u64, places: &mut [u16]) -> i64 {
+    // SAFETY: as said above.
+    unsafe { exports::evdisk_which(cat.as_ptr(), cat.len(), n, places.as_mut_ptr(), places.len()) }
+}

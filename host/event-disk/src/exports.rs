@@ -34,4 +34,5 @@ extern "C" {
     pub fn evdisk_breaks(cat: *const u8, cat_length: usize, id: u16) -> i64;
     pub fn evdisk_free(cat: *const u8, cat_length: usize) -> i64;
     pub fn evdisk_check(cat: *const u8, cat_length: usize, disk: *const u8, disk_length: usize) -> i64;
+    pub fn evdisk_which(cat: *const u8, cat_length: usize, n: u64, places: *mut u16, places_length: usize) -> i64;
 }

@@ -23,6 +23,11 @@
 //! let reviewed = [b'M'; event_disk::BLOCK];
 //! assert_eq!(event_disk::replace(&mut cat, &mut disk, 5, &reviewed)?, 0);
 //! assert_eq!(event_disk::replace(&mut cat, &mut disk, 5, &reviewed), Err(event_disk::Refusal::LetterNotAbove));
+//! // 15 of the 16 blocks are free, and the file in the other can be removed
+//! let mut places = [0; event_disk::MOST_FILES];
+//! assert_eq!(event_disk::which(&cat, 15, &mut places)?, event_disk::Which::FitsAlready);
+//! assert_eq!(event_disk::which(&cat, 16, &mut places)?, event_disk::Which::Removals(1));
+//! assert_eq!(places[..2], [5, 0]);
 //!
 //! let mut large = [0; Version::LARGE.catalogue];
 //! let disk = vec![0; 5000 * event_disk::BLOCK];
@@ -51,8 +56,20 @@ pub use version::Version;
 pub const PROVED: bool = cfg!(not(feature = "unproved"));
 /// The bytes of a block.
 pub const BLOCK: usize = 512;
-/// The most files of a disk.
+/// The most files of a disk, and the places of the list that [`which`] writes.
 pub const MOST_FILES: usize = 64;
+/// What the call answers for [`Which::FitsAlready`].
+const FITS_ALREADY: u64 = 256;
+
+/// What [`which`] answers.
+#[derive(Clone, Copy, Debug, PartialEq, Eq)]
+pub enum Which {
+    /// So many blocks are free: nothing has to be removed.
+    FitsAlready,
+    /// How many files there are of which one has to be removed: as many ids stand in the list. 0 says that the removal
+    /// of any one file is not enough.
+    Removals(usize),
+}
 
 /// The answer, or the refusal that a negative number stands for.
 fn answer(number: i64) -> Result<u64, Refusal> {
@@ -105,4 +122,15 @@ pub fn free(cat: &[u8]) -> Result<u64, Refusal> {
 /// The number of blocks, if the catalogue is sound and the disk as long as it says.
 pub fn check(cat: &[u8], disk: &[u8]) -> Result<u64, Refusal> {
     answer(archive::check(cat, disk))
+}
+
+/// Finds the files whose removal alone would let a file of `n` blocks in: those whose blocks and the free ones together
+/// are at least `n`. Writes their ids to `places`, which has [`MOST_FILES`] places: by the number of blocks that
+/// [`remove`] would answer, lowest first, and for equal numbers by lower id. Zeros follow, and if `n` blocks are free
+/// already there are only zeros. That there may be 64 files already is not looked at.
+pub fn which(cat: &[u8], n: u64, places: &mut [u16]) -> Result<Which, Refusal> {
+    answer(archive::which(cat, n, places)).map(|number| match number {
+        FITS_ALREADY => Which::FitsAlready,
+        count => Which::Removals(count as usize),
+    })
 }

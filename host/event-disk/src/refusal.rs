@@ -21,7 +21,7 @@ pub enum Refusal {
     IdMissing = 6,
     /// A file has this id already.
     IdThere = 7,
-    /// The content or output buffer is empty or no multiple of 512 bytes long.
+    /// The content or output buffer is empty or no multiple of 512 bytes long, or a number of blocks is 0 (which).
     BufferLength = 8,
     /// The pages go past the end of the file.
     PastEnd = 9,
@@ -33,11 +33,13 @@ pub enum Refusal {
     LetterUnknown = 12,
     /// The quality letter does not rank above that of the stored file (replace alone, and before 11).
     LetterNotAbove = 13,
+    /// The list has not 64 places (which alone).
+    ListLength = 14,
 }
 
 impl Refusal {
     /// All refusals by rising number.
-    pub const ALL: [Refusal; 13] = [
+    pub const ALL: [Refusal; 14] = [
         Refusal::CatalogueLength,
         Refusal::NoDisk,
         Refusal::NotSound,
@@ -51,6 +53,7 @@ impl Refusal {
         Refusal::NoSpace,
         Refusal::LetterUnknown,
         Refusal::LetterNotAbove,
+        Refusal::ListLength,
     ];
 
     /// The number that the documents give this refusal.
@@ -82,6 +85,7 @@ impl fmt::Display for Refusal {
             Refusal::NoSpace => "there are fewer free blocks than the file needs",
             Refusal::LetterUnknown => "the new file's quality letter is none of R, D, Q and M",
             Refusal::LetterNotAbove => "the new file's quality letter does not rank above the stored one",
+            Refusal::ListLength => "the list has not 64 places",
         })
     }
 }
@@ -114,7 +118,7 @@ mod tests {
     fn each_number_has_its_refusal() {
         for number in 0..=u64::from(u8::MAX) + 1 {
             let found = Refusal::of_number(number).map(|refusal| u64::from(refusal.number()));
-            assert_eq!(found, (1..=13).contains(&number).then_some(number));
+            assert_eq!(found, (1..=14).contains(&number).then_some(number));
         }
     }
 }

@@ -39,3 +39,7 @@ pub fn free(cat: &[u8]) -> i64 {
 pub fn check(cat: &[u8], disk: &[u8]) -> i64 {
     number(twin::check(cat, disk))
 }
+
+pub fn which(cat: &[u8], n: u64, places: &mut [u16]) -> i64 {
+    number(twin::which(cat, n, places))
+}

@@ -1,6 +1,6 @@
 //! The bytes before a refused call, which are those after it.
 
-use crate::sides::Guarded;
+use crate::guarded::Guarded;
 
 /// The bytes of the proved manager before a refused call.
 #[derive(Default)]
@@ -20,7 +20,7 @@ impl Kept {
     /// Keeps the bytes of a buffer, unless they are kept already.
     pub fn keep(&mut self, buffer: &Guarded) {
         if !self.holds {
-            self.buffer.bytes.clone_from(&buffer.bytes);
+            self.buffer.items.clone_from(&buffer.items);
             self.holds = true;
         }
     }

@@ -7,8 +7,8 @@ use model::{Version, BLOCK};
 use crate::letters;
 use crate::numbers::mix;
 
-/// A call and its arguments. Contents and outputs are given by their length in bytes, and contents by the byte that
-/// their first page has in the place of its quality letter.
+/// A call and its arguments. Contents and outputs are given by their length in bytes, contents by the byte that their
+/// first page has in the place of its quality letter too, and lists by their places.
 #[derive(Clone, Copy, Debug, PartialEq, Eq)]
 pub enum Call {
     Format,
@@ -19,10 +19,24 @@ pub enum Call {
     Breaks { id: u16 },
     Free,
     Check,
+    Which { n: u64, places: usize },
 }
 
 /// The names of the calls in the order of `Call::number`.
-pub const NAMES: [&str; 8] = ["format", "add", "remove", "replace", "read", "breaks", "free", "check"];
+pub const NAMES: [&str; 9] = ["format", "add", "remove", "replace", "read", "breaks", "free", "check", "which"];
+
+/// The refusals that each call gives, in the order of its checks.
+pub const GIVEN: [&[usize]; NAMES.len()] = [
+    &[1, 2],
+    &[1, 3, 4, 5, 7, 8, 10, 11],
+    &[1, 3, 4, 5, 6],
+    &[1, 3, 4, 5, 6, 8, 12, 13, 11],
+    &[1, 3, 4, 5, 6, 8, 9],
+    &[1, 3, 5, 6],
+    &[1, 3],
+    &[1, 3, 4],
+    &[1, 3, 8, 14],
+];
 
 impl Call {
     /// The place of the call in `NAMES`.
@@ -36,6 +50,7 @@ impl Call {
             Call::Breaks { .. } => 5,
             Call::Free => 6,
             Call::Check => 7,
+            Call::Which { .. } => 8,
         }
     }
 
@@ -74,6 +89,14 @@ impl Call {
             _ => 0,
         }
     }
+
+    /// The places of the list, 0 for a call without one.
+    pub fn places(&self) -> usize {
+        match self {
+            Call::Which { places, .. } => *places,
+            _ => 0,
+        }
+    }
 }
 
 impl fmt::Display for Call {
@@ -85,6 +108,7 @@ impl fmt::Display for Call {
             }
             Call::Remove { id } | Call::Breaks { id } => write!(f, " id {id}"),
             Call::Read { id, first, length } => write!(f, " id {id}, first page {first}, output of {length} bytes"),
+            Call::Which { n, places } => write!(f, " n {n}, list of {places} places"),
             Call::Format | Call::Free | Call::Check => Ok(()),
         }
     }

@@ -1,8 +1,9 @@
 //! Damaged catalogues: every call on them is what the second implementation's own reading of the rules gives.
 
-use model::{Catalogue, Version, BLOCK};
+use model::{Catalogue, Version, BLOCK, MOST_FILES};
 
 use crate::call::{Call, Lent};
+use crate::history::MOST_WHOLE;
 use crate::layouts::any_sound;
 use crate::letters;
 use crate::numbers::Numbers;
@@ -10,6 +11,7 @@ use crate::spoil::spoil;
 use crate::tally::Tally;
 use crate::twin::{told, Difference, Twin};
 use crate::twists::twisted;
+use crate::wild::wild_which;
 use crate::{lengths, staircases};
 
 /// The catalogues of one size: C is up to so many blocks, and the buffers of the disk have so many.
@@ -150,11 +152,13 @@ pub fn one_call(
         let n = catalogue.entry(id).map_or(0, |entry| u64::from(entry.blocks));
         tally.count_removal(call, twin.merges().check(u64::from(catalogue.free_blocks()), n, copied)?);
     }
+    tally.count_list(call, answer, twin);
     Ok(())
 }
 
-/// Each call once, with arguments that a sound catalogue answers mostly. Contents and outputs fit the lent disk.
-fn calls(catalogue: &Catalogue, disk: usize, numbers: &mut Numbers) -> [Call; 7] {
+/// Each call once, with arguments that a sound catalogue answers mostly, and which with any too. Contents and outputs
+/// fit the lent disk.
+fn calls(catalogue: &Catalogue, disk: usize, numbers: &mut Numbers) -> [Call; 9] {
     let ids: Vec<u16> = catalogue.entries.iter().map(|entry| entry.id).collect();
     let unheld = numbers.field();
     let id = if ids.is_empty() || numbers.one_in(10) { unheld } else { numbers.pick(&ids) };
@@ -164,6 +168,9 @@ fn calls(catalogue: &Catalogue, disk: usize, numbers: &mut Numbers) -> [Call; 7]
     let f = catalogue.free_blocks() as usize;
     let pages = numbers.within(1, f.clamp(1, disk));
     let replaced = numbers.within(1, (f + n + 1).min(disk));
+    // Of a long disk only a longest file is to be removed for its list, as the second implementation takes its time.
+    let longest = catalogue.entries.iter().map(|entry| entry.blocks as usize).max().unwrap_or(1);
+    let (least, n) = if catalogue.blocks as usize > MOST_WHOLE { (f + longest, longest) } else { (f + 1, n) };
     [
         Call::Add { id: unheld, length: pages * BLOCK, letter: letters::low(numbers) },
         Call::Replace { id, length: replaced * BLOCK, letter: letters::any(numbers) },
@@ -172,5 +179,7 @@ fn calls(catalogue: &Catalogue, disk: usize, numbers: &mut Numbers) -> [Call; 7]
         Call::Breaks { id },
         Call::Free,
         Call::Check,
+        Call::Which { n: numbers.within(least, f + n + 1) as u64, places: MOST_FILES },
+        wild_which(f as u64, n as u64, numbers),
     ]
 }

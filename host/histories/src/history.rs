@@ -53,6 +53,7 @@ impl History {
         if let (Some(_), Ok(copied)) = (call.removed(), answer) {
             tally.count_removal(call, self.twin.merges().check(f, n, copied)?);
         }
+        tally.count_list(call, answer, &self.twin);
         match answer {
             Ok(_) if call.changes() => compare_touched(&self.book, &self.twin).map(|()| answer),
             // The bytes were found to be the second implementation's, which it only borrows to look at.
@@ -88,7 +89,7 @@ impl History {
     fn is_of_the_list(&self, call: &Call, lent: Lent) -> bool {
         let right = self.right();
         match call {
-            Call::Breaks { .. } | Call::Free => lent.cat == right.cat,
+            Call::Breaks { .. } | Call::Free | Call::Which { .. } => lent.cat == right.cat,
             _ => lent == right,
         }
     }

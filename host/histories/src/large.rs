@@ -7,7 +7,7 @@
 //! changed no byte is found at once of the catalogue and the output, and of the disk by the window and at the
 //! intervals.
 
-use model::{Version, BLOCK};
+use model::{Version, BLOCK, FITS_ALREADY, MOST_FILES};
 
 use crate::call::Call;
 use crate::history::History;
@@ -18,7 +18,7 @@ use crate::tally::Tally;
 use crate::touched::ROUND;
 use crate::twin::Difference;
 
-/// After so many calls of a list the disks are compared whole.
+/// After so many calls of a list all files are listed, by their removals, and the disks are compared whole.
 const INTERVAL: usize = 25;
 /// With so many random calls asked for, the lists of `DISKS` are run once.
 const ONCE: u64 = 200_000;
@@ -86,6 +86,8 @@ fn one_list(
         any_step(&mut history, mix, &ids, numbers, &mut counts.tally)?;
         counts.note(&history);
         if call % INTERVAL == 0 || call == calls {
+            let n = history.book.free() + 1;
+            step(&mut history, Call::Which { n, places: MOST_FILES }, right, &mut counts.tally)?;
             counts.compare(&history)?;
         }
     }
@@ -101,10 +103,16 @@ fn landmarks(numbers: &mut Numbers, counts: &mut Counts) -> Result<(), Differenc
     let add = |id, pages| Call::Add { id, length: pages * BLOCK, letter: b'R' };
     let replace = |id, pages, letter| Call::Replace { id, length: pages * BLOCK, letter };
     let read = |id, pages| Call::Read { id, first: 0, length: pages * BLOCK };
+    let which = |n: usize| Call::Which { n: n as u64, places: MOST_FILES };
+    let fits = FITS_ALREADY as usize;
     let calls = [
         (Call::Format, Ok(most)),
         (add(1, 300_000), Ok(300_000)),
         (read(1, 300_000), Ok(300_000)),
+        (which(most - 300_000), Ok(fits)),
+        (which(most - 299_999), Ok(1)),
+        (which(most), Ok(1)),
+        (which(most + 1), Ok(0)),
         (replace(1, most + 1, b'D'), Err(11)),
         (replace(1, most - 1, b'D'), Ok(0)),
         (Call::Breaks { id: 1 }, Ok(19)),
@@ -117,6 +125,8 @@ fn landmarks(numbers: &mut Numbers, counts: &mut Counts) -> Result<(), Differenc
         (add(3, 2), Err(11)),
         (add(3, 1), Ok(1)),
         (add(4, 1), Err(11)),
+        (which(1), Ok(2)),
+        (which(2), Ok(1)),
         (Call::Remove { id: 2 }, Ok(0)),
         (Call::Remove { id: 3 }, Ok(0)),
         (add(65_535, most + 1), Err(11)),
@@ -166,7 +176,7 @@ impl Counts {
     /// free blocks not copied, and free buddies that were merged though the two lowest free sections were others.
     fn saw_enough(&self) -> bool {
         let seen = [
-            ("64 files", self.most_files == model::MOST_FILES),
+            ("64 files", self.most_files == MOST_FILES),
             ("a file of the most pieces", self.most_pieces == u32::from(Version::LARGE.most_height())),
             ("refusal 11", self.tally.refused(11) > 0),
             ("refusal 10", self.tally.refused(10) > 0),
@@ -174,6 +184,7 @@ impl Counts {
             ("a removal that copied, and a replacement", !self.tally.copied().contains(&0)),
             ("a buddy with free blocks that moved", self.tally.spared() > 0),
             ("free buddies that were not the two lowest", self.tally.passing() > 0),
+            ("a list of 64 files", self.tally.most_listed() > 0),
         ];
         for (what, _) in seen.iter().filter(|(_, seen)| !seen) {
             println!("  never seen on large disks: {what}");

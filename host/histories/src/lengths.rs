@@ -1,6 +1,6 @@
 //! Buffers of every length around each limit.
 
-use model::{Version, BLOCK};
+use model::{Version, BLOCK, MOST_FILES};
 
 use crate::call::{Call, Lent};
 use crate::history::MOST_WHOLE;
@@ -78,6 +78,7 @@ fn on_disk(version: Version, blocks: usize, numbers: &mut Numbers, tally: &mut T
             tally.begin(&call);
             let answer = twin.call(&call, lent, &content).map_err(told)?;
             tally.end(&call, answer);
+            tally.count_list(&call, answer, &twin);
             if (answer == Err(1)) != Version::of_length(lent.cat).is_none() {
                 return Err(told(format!("{answer:?} by the length of the catalogue")));
             }
@@ -124,6 +125,7 @@ fn calls(free: usize, held: usize, lent_right: bool) -> Vec<Call> {
         false => (vec![0, BLOCK], vec![0]),
     };
     let mut calls = vec![Call::Format, Call::Free, Call::Check];
+    calls.extend(lists(free, held, lent_right));
     for id in [0, HELD, 8] {
         calls.extend([Call::Breaks { id }, Call::Remove { id }]);
         for &length in &lengths {
@@ -133,4 +135,16 @@ fn calls(free: usize, held: usize, lent_right: bool) -> Vec<Call> {
         }
     }
     calls
+}
+
+/// Calls of which. With buffers of the right lengths, blocks and places are all around their limits.
+fn lists(free: usize, held: usize, lent_right: bool) -> Vec<Call> {
+    let (counts, places) = match lent_right {
+        true => {
+            let counts = vec![0, 1, free, free + 1, free + held, free + held + 1, usize::MAX];
+            (counts, vec![0, 1, MOST_FILES - 1, MOST_FILES, MOST_FILES + 1, 2 * MOST_FILES])
+        }
+        false => (vec![0, free + 1], vec![MOST_FILES]),
+    };
+    counts.iter().flat_map(|&n| places.iter().map(move |&places| Call::Which { n: n as u64, places })).collect()
 }

@@ -155,6 +155,7 @@ impl List {
             ("the 64th file added", self.seen.most_files),
             ("one of 64 files replaced", self.seen.replaced_of_most),
             ("a file replaced with no block free", self.seen.replaced_in_full),
+            ("all of 64 files listed", self.tally.most_listed()),
             // At least: each of the ids can be used for the first time once.
             ("an id used again", self.tally.adds().saturating_sub(self.ids.len() as u64)),
         ];

@@ -8,11 +8,14 @@ mod arguments;
 mod before;
 mod call;
 mod damage;
+mod guarded;
 mod history;
 mod large;
 mod layouts;
 mod lengths;
 mod letters;
+mod listed;
+mod lists;
 mod long;
 mod merges;
 mod mixes;
@@ -35,6 +38,8 @@ mod touched;
 mod twin;
 mod twists;
 mod watch;
+#[cfg(test)]
+mod which_tests;
 mod wild;
 
 use std::process::ExitCode;

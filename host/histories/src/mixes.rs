@@ -153,10 +153,11 @@ fn next_removal(mix: Mix, held: &[u16], history: &History, numbers: &mut Numbers
 
 fn next_look(held: &[u16], book: &Book, numbers: &mut Numbers) -> Call {
     let id = numbers.pick(held);
-    match numbers.within(0, 5) {
+    match numbers.within(0, 7) {
         0 => Call::Free,
         1 => Call::Check,
         2 => Call::Breaks { id },
+        3..=4 => next_which(id, book, numbers),
         _ => {
             let n = book.pages(id) as usize;
             let first = if numbers.one_in(3) { 0 } else { numbers.within(0, n - 1) };
@@ -164,4 +165,19 @@ fn next_look(held: &[u16], book: &Book, numbers: &mut Numbers) -> Call {
             Call::Read { id, first: first as u64, length: numbers.within(1, most) * BLOCK }
         }
     }
+}
+
+/// For as many blocks as fit already, or as each file suffices for, or as this one just does, or just does not, or as
+/// no file does, or for any.
+fn next_which(id: u16, book: &Book, numbers: &mut Numbers) -> Call {
+    let (f, n, blocks) = (book.free(), book.pages(id), book.check());
+    let n = match numbers.within(0, 9) {
+        0 => f.max(1),
+        1..=4 => f + 1,
+        5..=6 => f + n,
+        7 => f + n + 1,
+        8 => blocks + 1,
+        _ => numbers.within(1, blocks as usize) as u64,
+    };
+    Call::Which { n, places: MOST_FILES }
 }

@@ -6,7 +6,7 @@ use model::{Catalogue, Entry, Version};
 
 use crate::layouts::{most_pairs, staircase};
 use crate::letters;
-use event_disk::{add, breaks, check, format, free, read, remove, replace, Refusal, BLOCK};
+use event_disk::{add, breaks, check, format, free, read, remove, replace, which, Refusal, BLOCK, MOST_FILES};
 
 /// Bytes that the known scene needs at least.
 pub const KNOWN: usize = 64 * 1024;
@@ -15,7 +15,7 @@ pub const KNOWN: usize = 64 * 1024;
 pub const TRIALS: [&str; 2] = ["none", "known"];
 
 /// The names of the scenes: the call that each measures comes first.
-pub const SCENES: [&str; 20] = [
+pub const SCENES: [&str; 24] = [
     "format-most-pairs",
     "format-greatest",
     "add-one-to-empty",
@@ -33,6 +33,10 @@ pub const SCENES: [&str; 20] = [
     "read-one-of-64",
     "breaks-of-64",
     "free-of-64",
+    "which-one-file",
+    "which-all-of-64",
+    "which-most-copied",
+    "which-no-list",
     "check-64",
     "check-not-sound",
     "add-not-sound",
@@ -102,6 +106,7 @@ pub fn refusal(name: &str) -> Option<Refusal> {
         "add-65th" => Some(Refusal::FilesFull),
         "check-not-sound" | "add-not-sound" => Some(Refusal::NotSound),
         "replace-no-letter" => Some(Refusal::LetterUnknown),
+        "which-no-list" => Some(Refusal::ListLength),
         _ => None,
     }
 }
@@ -119,6 +124,10 @@ pub fn prepare(name: &str, version: Version) -> Option<Result<Ready, Refusal>> {
         "format-greatest" => fresh(most).and_then(|d| ready(d, |cat, disk| format(cat, disk))),
         "breaks-of-64" => ready(full(), move |cat, _| breaks(cat, last)),
         "free-of-64" => ready(full(), |cat, _| free(cat)),
+        "which-one-file" => listing(Disk::of(&one_file(version)), MOST_FILES),
+        "which-all-of-64" => listing(full(), MOST_FILES),
+        "which-most-copied" => listing(most_copied(version), MOST_FILES),
+        "which-no-list" => listing(full(), 0),
         "check-64" => ready(full(), |cat, disk| check(cat, disk)),
         "check-not-sound" => ready(Disk::not_sound(version), |cat, disk| check(cat, disk)),
         "read-all" => reading(Disk::of(&one_file(version)), 1, most - 1),
@@ -170,6 +179,12 @@ fn reading(disk: Disk, id: u16, pages: usize) -> Result<Ready, Refusal> {
     let Disk { cat, disk } = disk;
     let mut out = vec![0; pages * BLOCK];
     Ok(Box::new(move || read(&cat, &disk, id, 0, &mut out)))
+}
+
+/// Each file suffices for one block more than is free.
+fn listing(disk: Disk, places: usize) -> Result<Ready, Refusal> {
+    let (n, mut list) = (free(&disk.cat)? + 1, vec![0; places]);
+    Ok(Box::new(move || which(&disk.cat, n, &mut list).map(|_| 0)))
 }
 
 /// Needs a known number of bytes of stack.

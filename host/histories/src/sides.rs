@@ -1,70 +1,46 @@
 //! The buffers of one implementation, and its calls on them.
 
-use std::ops::Range;
-
-use model::{Answer, Version, BLOCK};
+use event_disk::Which;
+use model::{Answer, Version, BLOCK, FITS_ALREADY};
 
 use crate::call::{Call, Lent};
+use crate::guarded::Guarded;
 use crate::merges::Merges;
-use crate::twin::Difference;
 
-/// Bytes before and after a lent buffer, which no call may change.
-pub const GUARD: usize = 61;
 /// The longest catalogue buffer that is lent.
 const LONGEST_CATALOGUE: usize = 2 * Version::LARGE.catalogue;
+/// What catalogue and disk have beside the lent bytes.
+const BESIDE: u8 = 0xA7;
 /// What outputs hold before a read.
-pub const UNREAD: u8 = 0xEE;
-
-/// A buffer within guards.
-#[derive(Default)]
-pub struct Guarded {
-    pub bytes: Vec<u8>,
-}
-
-impl Guarded {
-    fn new(longest: usize) -> Guarded {
-        Guarded { bytes: vec![0xA7; longest + 2 * GUARD] }
-    }
-
-    /// So many bytes from the start.
-    pub fn lent(&self, length: usize) -> &[u8] {
-        &self.bytes[GUARD..GUARD + length]
-    }
-
-    /// So many bytes from the start, to be changed.
-    pub fn lent_mut(&mut self, length: usize) -> &mut [u8] {
-        &mut self.bytes[GUARD..GUARD + length]
-    }
-
-    /// These blocks.
-    pub fn blocks(&self, blocks: Range<usize>) -> &[u8] {
-        &self.bytes[GUARD + blocks.start * BLOCK..GUARD + blocks.end * BLOCK]
-    }
-
-    /// The bytes before and after the buffer.
-    pub fn guards(&self) -> [&[u8]; 2] {
-        [&self.bytes[..GUARD], &self.bytes[self.bytes.len() - GUARD..]]
-    }
-}
+const UNREAD: u8 = 0xEE;
+/// What lists hold before ids are written to them.
+const UNLISTED: u16 = 0xEDED;
 
 /// The buffers of one implementation.
 pub struct Side {
     pub cat: Guarded,
     pub disk: Guarded,
     pub out: Guarded,
+    pub list: Guarded<u16>,
 }
 
 impl Side {
     /// Buffers for at most so many blocks.
     pub fn new(most_blocks: usize) -> Side {
-        let out = Guarded { bytes: Vec::new() };
-        Side { cat: Guarded::new(LONGEST_CATALOGUE), disk: Guarded::new(most_blocks * BLOCK), out }
+        let cat = Guarded::of(BESIDE, LONGEST_CATALOGUE);
+        let disk = Guarded::of(BESIDE, most_blocks * BLOCK);
+        Side { cat, disk, out: Guarded::default(), list: Guarded::default() }
     }
 
-    /// Makes the output and its guards hold the mark of what is not read.
-    pub fn clear_output(&mut self, length: usize) {
-        self.out.bytes.clear();
-        self.out.bytes.resize(length + 2 * GUARD, UNREAD);
+    /// Makes the output and the list of a call have their right lengths, and the marks that nothing was written.
+    pub fn clear_outputs(&mut self, call: &Call) {
+        self.out.clear(UNREAD, call.output_length());
+        self.list.clear(UNLISTED, call.places());
+    }
+
+    /// Whether output and list have all their marks.
+    pub fn is_unwritten(&self) -> bool {
+        self.out.has_only(UNREAD) && self.list.has_only(UNLISTED)
     }
 
     /// What a call merges if it is answered, as the second implementation has it.
@@ -87,6 +63,7 @@ impl Side {
             Call::Breaks { id } => model::breaks(cat, id),
             Call::Free => model::free(cat),
             Call::Check => model::check(cat, disk),
+            Call::Which { n, places } => model::which(cat, n, self.list.lent_mut(places)),
         }
     }
 
@@ -102,22 +79,16 @@ impl Side {
             Call::Breaks { id } => event_disk::breaks(cat, id),
             Call::Free => event_disk::free(cat),
             Call::Check => event_disk::check(cat, disk),
+            Call::Which { n, places } => event_disk::which(cat, n, self.list.lent_mut(places)).map(number),
         };
         answer.map_err(|refusal| refusal.number())
     }
 }
 
-/// Guarded buffers that are equal, guards and all.
-pub fn compare(what: &str, one: &Guarded, other: &Guarded) -> Result<(), Difference> {
-    compare_from(-(GUARD as isize), what, &one.bytes, &other.bytes)
-}
-
-/// Equal bytes, or the first place where they are not, counted from the start of the lent buffer.
-pub fn compare_from(start: isize, what: &str, one: &[u8], other: &[u8]) -> Result<(), Difference> {
-    if one == other {
-        return Ok(());
+/// The number of an answer of which.
+fn number(answer: Which) -> u64 {
+    match answer {
+        Which::FitsAlready => FITS_ALREADY,
+        Which::Removals(count) => count as u64,
     }
-    let place = one.iter().zip(other).position(|(a, b)| a != b).unwrap_or(one.len().min(other.len()));
-    let (here, there) = (one.get(place), other.get(place));
-    Err(format!("{what}: byte {} is {here:?}, not {there:?}", start + place as isize))
 }

@@ -5,7 +5,7 @@
 //! met before needs no second visit. Layer by layer this covers every list of at most so many adds, removes and
 //! replaces, with looks in between.
 
-use model::{Version, BLOCK};
+use model::{Version, BLOCK, MOST_FILES};
 
 use crate::alphabet::{Alphabet, ALPHABETS, LETTERS};
 use crate::call::Call;
@@ -31,7 +31,10 @@ pub fn run(depth: Option<usize>) -> bool {
     println!(
         "  them with n from 1 to C + 1, anywhere in a list or at its end, and in every state each read, breaks, free,"
     );
-    println!("  check of ids 0 to 4, adds and replaces of 511 bytes, and replaces by C + 1 blocks with each letter");
+    println!(
+        "  check of ids 0 to 4, adds and replaces of 511 bytes, replaces by C + 1 blocks with each letter, and which"
+    );
+    println!("  with n from 0 to C + 1, and with lists of 63 and 65 places");
     Version::ALL.into_iter().all(|version| in_version(version, depth))
 }
 
@@ -115,6 +118,7 @@ impl Search {
     fn look(&mut self, state: &State) -> Result<(), Difference> {
         self.step(&Call::Free)?;
         self.step(&Call::Check)?;
+        self.look_for_removals()?;
         for id in 0..=4u16 {
             self.step(&Call::Breaks { id })?;
             self.step(&Call::Add { id, length: 511, letter: b'R' })?;
@@ -134,6 +138,18 @@ impl Search {
                     self.states.load(state, &mut self.history)?;
                 }
             }
+        }
+        Ok(())
+    }
+
+    /// Asks which removals would let n blocks in, for each n of the disk and at both ends, and with lists of other
+    /// lengths.
+    fn look_for_removals(&mut self) -> Result<(), Difference> {
+        for n in 0..=self.alphabet.blocks as u64 + 1 {
+            self.step(&Call::Which { n, places: MOST_FILES })?;
+        }
+        for (n, places) in [(0, MOST_FILES - 1), (1, MOST_FILES - 1), (1, MOST_FILES + 1)] {
+            self.step(&Call::Which { n, places })?;
         }
         Ok(())
     }

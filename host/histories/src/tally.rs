@@ -2,29 +2,20 @@
 
 use model::Answer;
 
-use crate::call::{Call, NAMES};
+use crate::call::{Call, GIVEN, NAMES};
+use crate::lists::Lists;
 use crate::merges::Copied;
 use crate::removals::Removals;
+use crate::twin::Twin;
 
 /// Something that has to be seen, and how often it was.
 pub type Event = (String, u64);
 
 /// The greatest number of a refusal.
-const MOST: usize = 13;
-/// The refusals that each call gives, in the order of `NAMES`.
-const GIVEN: [&[usize]; NAMES.len()] = [
-    &[1, 2],
-    &[1, 3, 4, 5, 7, 8, 10, 11],
-    &[1, 3, 4, 5, 6],
-    &[1, 3, 4, 5, 6, 8, 12, 13, 11],
-    &[1, 3, 4, 5, 6, 8, 9],
-    &[1, 3, 5, 6],
-    &[1, 3],
-    &[1, 3, 4],
-];
-
-/// Some replacement.
+const MOST: usize = 14;
+/// Some replacement, and some call of which.
 const REPLACE: Call = Call::Replace { id: 0, length: 0, letter: 0 };
+const WHICH: Call = Call::Which { n: 0, places: 0 };
 
 /// Counts of calls, refusals and removals.
 #[derive(Default)]
@@ -37,6 +28,7 @@ pub struct Tally {
     removals: Removals,
     /// The removals of replacements.
     replacements: Removals,
+    lists: Lists,
 }
 
 impl Tally {
@@ -62,11 +54,19 @@ impl Tally {
         }
     }
 
+    /// Counts the list of the last call, if it is an answer of which.
+    pub fn count_list(&mut self, call: &Call, answer: Answer, twin: &Twin) {
+        if let (Call::Which { places, .. }, Ok(number)) = (call, answer) {
+            self.lists.note(number, twin.list(*places));
+        }
+    }
+
     /// Counts what another has counted too.
     pub fn add(&mut self, other: &Tally) {
         self.calls += other.calls;
         self.removals = self.removals.with(other.removals);
         self.replacements = self.replacements.with(other.replacements);
+        self.lists = self.lists.with(other.lists);
         let counts = self.kinds.iter_mut().chain(&mut self.answered).chain(self.refusals.as_flattened_mut());
         let more = other.kinds.iter().chain(&other.answered).chain(other.refusals.as_flattened());
         for (count, more) in counts.zip(more) {
@@ -87,6 +87,9 @@ impl Tally {
             ("a replacement that reached its bound", self.replacements.at_bound),
             ("a free block in a buddy that moved", self.spared()),
             ("free buddies that were not the two lowest", self.passing()),
+            ("blocks that fit already", self.lists.fits),
+            ("blocks for which no file suffices", self.lists.none),
+            ("a listed id before a lower one", self.lists.falling),
         ];
         calls.chain(refusals).chain(removals.map(|(what, times)| (what.into(), times))).collect()
     }
@@ -108,6 +111,11 @@ impl Tally {
     /// How often a replacement was answered.
     pub fn replaced(&self) -> u64 {
         self.answered[REPLACE.number()]
+    }
+
+    /// How often all of the most files were listed.
+    pub fn most_listed(&self) -> u64 {
+        self.lists.most
     }
 
     /// How often a refusal was given.
@@ -145,10 +153,11 @@ impl Tally {
         println!("  calls {}: {}", self.calls, kinds.collect::<Vec<_>>().join(", "));
         let refusals = (1..=MOST).map(|number| format!("{number}: {}", self.refused(number)));
         println!("  refusals by number: {}", refusals.collect::<Vec<_>>().join(", "));
-        let of_replace = REPLACE.number();
-        let refusals = GIVEN[of_replace].iter().map(|&number| (number, self.refusals[of_replace][number]));
-        let refusals = refusals.map(|(number, times)| format!("{number}: {times}"));
-        println!("  of replace, in its order: {}", refusals.collect::<Vec<_>>().join(", "));
+        for call in [REPLACE.number(), WHICH.number()] {
+            let refusals = GIVEN[call].iter().map(|&number| format!("{number}: {}", self.refusals[call][number]));
+            println!("  of {}, in its order: {}", NAMES[call], refusals.collect::<Vec<_>>().join(", "));
+        }
+        self.lists.print();
     }
 
     /// What removals and replacements copied and merged.

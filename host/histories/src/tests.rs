@@ -171,7 +171,8 @@ fn a_long_list_without_an_event_is_told() {
         let told = List::new(version, 16, &mut numbers).run(5000, 5000, &mut numbers).expect_err("16 files at most");
         assert_eq!(
             told,
-            "never seen from call 0 of the list on: refusal 10, the 64th file added, one of 64 files replaced"
+            "never seen from call 0 of the list on: refusal 10, the 64th file added, one of 64 files replaced, \
+             all of 64 files listed"
         );
     }
 }

@@ -5,9 +5,10 @@ use model::{Answer, Entry, Version, BLOCK};
 use crate::apart::Apart;
 use crate::before::Before;
 use crate::call::{Call, Lent};
+use crate::guarded::{compare, compare_from};
 use crate::merges::Merges;
 use crate::numbers::Numbers;
-use crate::sides::{compare, compare_from, Side, UNREAD};
+use crate::sides::Side;
 use crate::touched::Touched;
 
 /// How the two, or a call and the book, differ.
@@ -76,6 +77,11 @@ impl Twin {
         self.proved.out.lent(length)
     }
 
+    /// The list of the last call of which of the proved manager.
+    pub fn list(&self, places: usize) -> &[u16] {
+        self.proved.list.lent(places)
+    }
+
     /// What the last call merged, if it was answered.
     pub fn merges(&self) -> &Merges {
         &self.merges
@@ -87,10 +93,11 @@ impl Twin {
     }
 
     /// Makes a call on both. Answers and all bytes have to be equal, of long disks those of `Touched`, and a refused
-    /// call must not change any. Where all bytes are compared, a replacement has to be what its two calls are.
+    /// call must not change any. Where all bytes are compared, a replacement has to be what its two calls are, and a
+    /// list that of removals.
     pub fn call(&mut self, call: &Call, lent: Lent, content: &[u8]) -> Result<Answer, Difference> {
         for side in [&mut self.proved, &mut self.second] {
-            side.clear_output(call.output_length());
+            side.clear_outputs(call);
         }
         self.merges = self.second.merges(call, lent);
         if let Some(touched) = &mut self.touched {
@@ -105,27 +112,15 @@ impl Twin {
             Ok(_) if call.changes() => self.before.change(),
             Ok(_) => {}
         }
-        let apart = self.apart(call, lent, content, second);
+        let apart = self.touched.is_none().then(|| Apart::before(call, second, &self.proved, lent, content));
         let proved = self.proved.call_proved(call, lent, content);
         if proved != second {
             return Err(format!("the proved manager gave {}, the second {}", told(proved), told(second)));
         }
-        let (cat, disk) = (self.proved.cat.lent(lent.cat), self.proved.disk.lent(lent.disk));
         let compared = self.compare_bytes(proved);
-        match compared.and_then(|()| apart.map_or(Ok(()), |apart| apart.compare(proved, cat, disk))) {
+        match compared.and_then(|()| apart.map_or(Ok(()), |apart| apart.compare(proved, &self.proved, lent))) {
             Ok(()) => Ok(proved),
             Err(difference) => Err(format!("both gave {}, but {difference}", told(proved))),
-        }
-    }
-
-    /// The two calls of a replacement that is answered or refused for space, on copies of the proved manager's bytes.
-    fn apart(&self, call: &Call, lent: Lent, content: &[u8], answer: Answer) -> Option<Apart> {
-        let (cat, disk) = (self.proved.cat.lent(lent.cat), self.proved.disk.lent(lent.disk));
-        match (call, answer) {
-            (Call::Replace { id, .. }, Ok(_) | Err(11)) if self.touched.is_none() => {
-                Some(Apart::make(cat, disk, *id, content))
-            }
-            _ => None,
         }
     }
 
@@ -149,6 +144,7 @@ impl Twin {
         let (proved, second) = (&self.proved, &self.second);
         compare("catalogue", &proved.cat, &second.cat)?;
         compare("output", &proved.out, &second.out)?;
+        compare("list", &proved.list, &second.list)?;
         match &self.touched {
             Some(touched) => self.compare_touched(touched)?,
             None => self.compare_disks()?,
@@ -160,9 +156,9 @@ impl Twin {
         if self.touched.is_none() {
             compare("disk of a refused call", &proved.disk, &self.before.disk.buffer)?;
         }
-        match proved.out.bytes.iter().fold(true, |unread, &byte| unread & (byte == UNREAD)) {
+        match proved.is_unwritten() {
             true => Ok(()),
-            false => Err(format!("the output of a call that was {} was changed", told(answer))),
+            false => Err(format!("the output or list of a call that was {} was changed", told(answer))),
         }
     }
 

@@ -1,6 +1,8 @@
 //! The book beside the manager: what the one claim about the whole list of calls says at each call.
 
-use model::{Answer, Book, Entry, Pair, BLOCK};
+use std::collections::BTreeSet;
+
+use model::{Answer, Book, Entry, Pair, BLOCK, FITS_ALREADY};
 
 use crate::call::Call;
 use crate::twin::{told, Difference, Twin};
@@ -30,14 +32,25 @@ pub fn follow(book: &mut Book, call: &Call, content: &[u8], twin: &Twin, answer:
         Call::Breaks { id } => book.breaks(id).map(|_| pieces(book, id) - 1),
         Call::Free => Ok(book.free()),
         Call::Check => Ok(book.check()),
+        Call::Which { n, places } => book.which(n, places).map(|ids| ids.map_or(FITS_ALREADY, |ids| ids.len() as u64)),
     };
     require(expected == answer, || format!("the manager gave {}, the book {}", told(answer), told(expected)))?;
     match *call {
         Call::Read { id, first, length } if answer.is_ok() => {
             require(book.read(id, first, length) == Ok(twin.output(length)), || "output is not the book's".into())
         }
+        Call::Which { n, places } if answer.is_ok() => {
+            let ids = book.which(n, places).ok().flatten().unwrap_or_default();
+            require(has_ids(twin.list(places), &ids), || "the listed ids are not the book's".into())
+        }
         _ => Ok(()),
     }
+}
+
+/// Whether a list has these ids in any order, and then zeros. The order is not the book's.
+pub fn has_ids(list: &[u16], ids: &BTreeSet<u16>) -> bool {
+    let (listed, rest) = list.split_at(ids.len());
+    BTreeSet::from_iter(listed.iter().copied()) == *ids && rest.iter().all(|&place| place == 0)
 }
 
 /// What holds of catalogue and disk after every list of calls: ids, n, pieces and pages are the book's.

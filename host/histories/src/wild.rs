@@ -1,6 +1,6 @@
 //! Calls with wrong arguments.
 
-use model::{Book, Version, BLOCK};
+use model::{Book, Version, BLOCK, MOST_FILES};
 
 use crate::call::{Call, Lent};
 use crate::letters;
@@ -20,15 +20,25 @@ pub fn wild_call(ids: &[u16], book: &Book, numbers: &mut Numbers) -> Call {
     let replaced = wild_length(&[1, 2, n, f, f + 1, f + n, f + n + 1, f + n + 1], numbers);
     let read = wild_length(&[1, 2, n, n + 1], numbers);
     let first = numbers.pick(&[0, 0, 1, n.saturating_sub(1), n, 65_536]) as u64;
-    match numbers.within(0, 12) {
+    match numbers.within(0, 14) {
         0..=2 => Call::Add { id, length: added, letter: letters::any(numbers) },
         3 => Call::Remove { id },
         4..=6 => Call::Replace { id, length: replaced, letter: letters::any(numbers) },
         7..=9 => Call::Read { id, first: if numbers.one_in(9) { u64::MAX - first } else { first }, length: read },
         10 => Call::Breaks { id },
         11 => Call::Free,
-        _ => Call::Check,
+        12 => Call::Check,
+        _ => wild_which(f as u64, n as u64, numbers),
     }
+}
+
+/// For blocks around those that a file just suffices for where so many are free, for none and for more than there can
+/// be; the list may have other places than the most files.
+pub fn wild_which(f: u64, n: u64, numbers: &mut Numbers) -> Call {
+    let most = Version::LARGE.most_blocks as u64;
+    let n = numbers.pick(&[0, 0, 1, f, f + 1, f + n, f + n + 1, most, most + 1, u32::MAX.into(), 1 << 32, u64::MAX]);
+    let places = numbers.pick(&[0, 1, MOST_FILES - 1, MOST_FILES, MOST_FILES, MOST_FILES + 1, 2 * MOST_FILES, 256]);
+    Call::Which { n, places }
 }
 
 /// The bytes of some of these pages, or of none, or no multiple of a page.

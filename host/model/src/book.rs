@@ -1,6 +1,6 @@
 //! The plain book: lines of an id and its pages. It sees C and the arguments of the calls, and nothing else.
 
-use std::collections::BTreeMap;
+use std::collections::{BTreeMap, BTreeSet};
 
 use crate::{Answer, BLOCK, MOST_FILES};
 
@@ -113,5 +113,19 @@ impl Book {
     /// Whether breaks is refused. The number that it answers is not the book's.
     pub fn breaks(&self, id: u16) -> Result<(), u8> {
         self.line(id).map(|_| ())
+    }
+
+    /// The ids of the lines whose pages and f together are n or more, or none of this if n is at most f already. The
+    /// order in which they are listed is not the book's.
+    pub fn which(&self, n: u64, places: usize) -> Result<Option<BTreeSet<u16>>, u8> {
+        if n == 0 {
+            return Err(8);
+        }
+        if places != MOST_FILES {
+            return Err(14);
+        }
+        let f = self.free();
+        let enough = self.lines.keys().copied().filter(|&id| self.pages(id) + f >= n);
+        Ok(if n <= f { None } else { Some(enough.collect()) })
     }
 }

@@ -13,6 +13,12 @@ fn refuse_lowest(conditions: &[(u8, bool)]) -> Result<(), u8> {
     }
 }
 
+/// Refuses with the number of the first condition that holds, for a call whose order is that of a request. The numbers
+/// need not rise.
+pub(crate) fn refuse_first(conditions: &[(u8, bool)]) -> Result<(), u8> {
+    conditions.iter().try_for_each(|&(number, holds)| if holds { Err(number) } else { Ok(()) })
+}
+
 /// The version that format makes in a buffer: refusal 1 if no catalogue is as long.
 fn version_for(cat: &[u8]) -> Result<Version, u8> {
     Version::of_length(cat.len()).ok_or(1)

@@ -16,6 +16,7 @@ mod moving;
 mod reading;
 mod replacing;
 mod versions;
+mod which;
 mod writing;
 
 pub use blocks::{BlockMap, Owner};
@@ -28,6 +29,7 @@ pub use moving::{buddies_first, two_lowest, Choice, Merge, Move};
 pub use reading::{sound, Catalogue, Entry, Pair};
 pub use replacing::replace;
 pub use versions::Version;
+pub use which::{which, FITS_ALREADY};
 pub use writing::write;
 
 /// The bytes of a block.

@@ -1,6 +1,6 @@
 //! Replace: a removal and an add, once nothing refuses it.
 
-use crate::calls::{add, catalogue_in, remove, wrong_disk, wrong_length, Answer};
+use crate::calls::{add, catalogue_in, refuse_first, remove, wrong_disk, wrong_length, Answer};
 use crate::{BlockMap, Catalogue, BLOCK};
 
 /// The place of the quality letter in a record, counted from 0.
@@ -21,11 +21,6 @@ fn from_letter_up(letter: u8) -> Option<&'static [u8]> {
 fn stored_letter(catalogue: &Catalogue, disk: &[u8], id: u16) -> Option<u8> {
     let block = *BlockMap::of(catalogue).pages(id).first()?;
     disk.get(block * BLOCK + LETTER).copied()
-}
-
-/// Refuses with the number of the first condition that holds. The numbers need not rise.
-fn refuse_first(conditions: &[(u8, bool)]) -> Result<(), u8> {
-    conditions.iter().try_for_each(|&(number, holds)| if holds { Err(number) } else { Ok(()) })
 }
 
 /// Whether replace is refused: the conditions stand in the order of the request, in which 11 comes last.

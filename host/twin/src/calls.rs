@@ -1,4 +1,4 @@
-//! The eight calls on a lent catalogue and a lent disk.
+//! The calls on a lent catalogue and a lent disk, but for `which`.
 
 use crate::disk::{copy_merge, read_pages, write_pages};
 use crate::letter::{rank, stored_rank};
@@ -11,7 +11,7 @@ use crate::{Version, BLOCK, MOST_FILES};
 pub type Answer = Result<u64, u8>;
 
 /// Refuses with a number if its condition holds.
-fn refuse_if(condition: bool, number: u8) -> Result<(), u8> {
+pub fn refuse_if(condition: bool, number: u8) -> Result<(), u8> {
     if condition {
         Err(number)
     } else {
@@ -20,7 +20,7 @@ fn refuse_if(condition: bool, number: u8) -> Result<(), u8> {
 }
 
 /// The table of a catalogue: refusals 1 and 3.
-fn open(cat: &[u8]) -> Result<Table, u8> {
+pub fn open(cat: &[u8]) -> Result<Table, u8> {
     let version = Version::of_length(cat.len()).ok_or(1)?;
     load(cat, version).ok_or(3)
 }

@@ -11,19 +11,9 @@ pub fn block(disk: &[u8], number: u32) -> &[u8] {
     &disk[BLOCK * number as usize..][..BLOCK]
 }
 
-/// Makes the copies of a merge, and answers how many: blocks of the lower section's buddy go to the upper section. Of
-/// the buddy files hold what lies between the free pieces inside it, which stand by rising first block.
+/// Makes the copies of a merge, and answers how many: blocks of the lower section's buddy go to the upper section.
 pub fn copy_merge(disk: &mut [u8], free: &FreePieces, lower: Section, upper: Section) -> u64 {
-    let buddy = lower.buddy();
-    if buddy == upper {
-        return 0;
-    }
-    let (mut made, mut held) = (0, buddy.first);
-    for piece in free.all().iter().filter(|piece| piece.is_inside(buddy)) {
-        made += copy_run(disk, held..piece.first, buddy, upper);
-        held = piece.end();
-    }
-    made + copy_run(disk, held..buddy.end(), buddy, upper)
+    free.runs_to_copy(lower, upper).map(|run| copy_run(disk, run, lower.buddy(), upper)).sum()
 }
 
 /// Copies blocks that lie inside one section to the same distance in another, and answers how many.

@@ -17,9 +17,11 @@ mod section;
 mod storing;
 mod table;
 mod version;
+mod which;
 
 pub use calls::{add, breaks, check, format, free, read, remove, replace, Answer};
 pub use version::Version;
+pub use which::{which, FITS_ALREADY};
 
 /// The bytes of a block.
 pub const BLOCK: usize = 512;

@@ -75,9 +75,7 @@ impl Table {
         let entry = self.files[at];
         self.files.copy_within(at + 1..self.count, at);
         self.count -= 1;
-        for &piece in entry.pieces.all() {
-            self.free.put(piece);
-        }
+        self.free.put_all(&entry.pieces);
     }
 
     /// Merges two free pieces that were taken out: what lies inside the lower one's buddy moves to the upper one.
@@ -86,8 +84,6 @@ impl Table {
         for entry in &mut self.files[..self.count] {
             entry.pieces.move_inside(buddy, upper);
         }
-        self.free.move_inside(buddy, upper);
-        self.free.sort_by_first();
-        self.free.put(lower.parent());
+        self.free.merge(lower, upper);
     }
 }

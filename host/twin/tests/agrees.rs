@@ -3,11 +3,11 @@
 mod sides;
 
 use event_disk::Refusal;
-use sides::any::{any_call, buffer_length};
+use sides::any::{any_call, buffer_length, list_length};
 use sides::numbers::Numbers;
 use sides::{agree, Buffers, Call};
 use std::collections::BTreeSet;
-use twin::{Version, BLOCK};
+use twin::{Version, BLOCK, FITS_ALREADY};
 
 /// A disk with its version and blocks, and the calls on it: ids below `ids`, contents up to `pages`.
 struct Plan {
@@ -18,27 +18,34 @@ struct Plan {
     calls: usize,
 }
 
-/// A history on a fresh disk. The output has another length before each call. Gives what replacements were: answered,
-/// or refused with a number.
-fn history(seed: u64, plan: Plan) -> BTreeSet<Result<(), u8>> {
+/// What a replacement was, or a call of which: refused with a number, or answered. Of the answers of which "none" and
+/// "fits already" stand for themselves, and all others are the same.
+type Seen = BTreeSet<(&'static str, Result<u64, u8>)>;
+
+/// A history on a fresh disk. The output and the list have other lengths and numbers before each call.
+fn history(seed: u64, plan: Plan) -> Seen {
     let numbers = &mut Numbers(seed);
-    let (cat, disk) = (vec![7; plan.version.catalogue], vec![9; plan.blocks * BLOCK]);
-    let mut proved = Buffers { cat, disk, out: Vec::new() };
+    let mut proved = Buffers::of(vec![7; plan.version.catalogue], vec![9; plan.blocks * BLOCK]);
     let mut twin = proved.clone();
     assert_eq!(agree(&Call::Format, &mut proved, &mut twin), Ok(plan.blocks as u64));
-    let (mut answered, mut replaced) = (0, BTreeSet::new());
+    let (mut answered, mut seen) = (0, Seen::new());
     for _ in 0..plan.calls {
-        let out = vec![1; buffer_length(numbers, 4)];
-        (proved.out, twin.out) = (out.clone(), out);
-        let call = any_call(numbers, plan.ids, plan.pages);
+        proved.out = vec![1; buffer_length(numbers, 4)];
+        proved.list = vec![1; list_length(numbers)];
+        twin.out.clone_from(&proved.out);
+        twin.list.clone_from(&proved.list);
+        let free = twin::free(&twin.cat).unwrap();
+        let call = any_call(numbers, plan.ids, plan.pages, free);
         let answer = agree(&call, &mut proved, &mut twin);
         answered += usize::from(answer.is_ok());
-        if let Call::Replace(..) = call {
-            replaced.insert(answer.map(drop));
-        }
+        match call {
+            Call::Replace(..) => seen.insert(("replace", answer.map(|_| 1))),
+            Call::Which(..) => seen.insert(("which", answer.map(|n| if n == FITS_ALREADY { n } else { n.min(1) }))),
+            _ => false,
+        };
     }
     assert!(answered > plan.calls / 8, "only {answered} of {} calls were answered", plan.calls);
-    replaced
+    seen
 }
 
 #[test]
@@ -48,9 +55,10 @@ fn on_histories_of_calls() {
         let small = [1, 2, 3, 5, 16, 100, 261].map(|blocks| plan(blocks, 12, blocks.div_ceil(3), 1000));
         let more = [plan(261, 80, 7, 2000), plan(4095, 70, 130, 1500), plan(4096, 10, 1100, 200)];
         let plans = small.into_iter().chain(more).enumerate();
-        let replaced: BTreeSet<_> = plans.flat_map(|(seed, plan)| history(seed as u64, plan)).collect();
-        let refused = [5, 6, 8, 11, 12, 13].map(Err);
-        assert!(replaced.into_iter().eq([Ok(())].into_iter().chain(refused)), "each refusal of replace, and an answer");
+        let seen: Seen = plans.flat_map(|(seed, plan)| history(seed as u64, plan)).collect();
+        let replaced = [Ok(1), Err(5), Err(6), Err(8), Err(11), Err(12), Err(13)].map(|answer| ("replace", answer));
+        let which = [Ok(0), Ok(1), Ok(FITS_ALREADY), Err(8), Err(14)].map(|answer| ("which", answer));
+        assert!(seen.into_iter().eq(replaced.into_iter().chain(which)), "each refusal, and each kind of answer");
     }
 }
 
@@ -64,7 +72,7 @@ fn on_histories_of_large_disks() {
 
 /// A disk of 100 blocks with five files.
 fn five_files(version: Version, numbers: &mut Numbers) -> Buffers {
-    let mut whole = Buffers { cat: vec![0; version.catalogue], disk: vec![0; 100 * BLOCK], out: vec![0; BLOCK] };
+    let mut whole = Buffers::of(vec![0; version.catalogue], vec![0; 100 * BLOCK]);
     twin::format(&mut whole.cat, &whole.disk).unwrap();
     for id in [3, 5, 8, 11, 300] {
         let content = vec![id as u8; BLOCK * (1 + numbers.below(20))];
@@ -87,7 +95,7 @@ fn on_damaged_catalogues() {
                 proved.cat[at] = if numbers.below(2) == 0 { numbers.below(9) as u8 } else { numbers.next() as u8 };
             }
             let mut twin = proved.clone();
-            let call = any_call(numbers, 12, 20);
+            let call = any_call(numbers, 12, 20, 30);
             let _ = agree(&call, &mut proved, &mut twin);
         }
     }
@@ -103,6 +111,7 @@ fn on_fields_at_their_ends() {
             proved.cat[at..at + 4].copy_from_slice(&number.to_be_bytes());
             let mut twin = proved.clone();
             let _ = agree(&Call::Free, &mut proved, &mut twin);
+            let _ = agree(&Call::Which(1 << 16), &mut proved, &mut twin);
             let _ = agree(&Call::Replace(8, vec![b'R'; BLOCK]), &mut proved, &mut twin);
             let _ = agree(&Call::Remove(5), &mut proved, &mut twin);
         }
@@ -124,10 +133,11 @@ fn on_64_files_of_far_too_many_blocks() {
                 cat.extend(pair.map(u32::to_be_bytes).concat().repeat(n.count_ones() as usize));
             }
             cat.resize(version.catalogue, 0);
-            let mut proved = Buffers { cat, disk: vec![0; 100 * BLOCK], out: Vec::new() };
+            let mut proved = Buffers::of(cat, vec![0; 100 * BLOCK]);
             let mut twin = proved.clone();
             let replace = Call::Replace(1, vec![b'M'; BLOCK]);
-            for call in [Call::Free, Call::Breaks(64), Call::Remove(1), replace, Call::Add(65, vec![0; BLOCK])] {
+            let (add, which) = (Call::Add(65, vec![0; BLOCK]), Call::Which(u64::MAX));
+            for call in [Call::Free, Call::Breaks(64), Call::Remove(1), replace, add, which] {
                 assert_eq!(agree(&call, &mut proved, &mut twin), Err(3));
             }
         }
@@ -139,10 +149,10 @@ fn on_buffers_of_other_lengths() {
     let (most, lengths) = (Version::SMALL.most_blocks, Version::ALL.map(|version| version.catalogue));
     for cat in lengths.into_iter().flat_map(|length| [length - 1, length, length + 1]).chain([0, 8192]) {
         for disk in [0, 1, BLOCK, 2 * BLOCK + 1, 16 * BLOCK, most * BLOCK, (most + 1) * BLOCK] {
-            let mut proved = Buffers { cat: vec![0; cat], disk: vec![0; disk], out: vec![0; BLOCK] };
+            let mut proved = Buffers::of(vec![0; cat], vec![0; disk]);
             let mut twin = proved.clone();
             let (add, replace) = (Call::Add(1, vec![5; BLOCK]), Call::Replace(1, vec![b'D'; BLOCK]));
-            for call in [Call::Check, Call::Format, Call::Check, add, replace, Call::Free] {
+            for call in [Call::Check, Call::Format, Call::Check, add, replace, Call::Free, Call::Which(1)] {
                 let _ = agree(&call, &mut proved, &mut twin);
             }
             proved.disk.resize(disk + BLOCK, 0);
@@ -180,6 +190,7 @@ fn on_versions_that_do_not_suit_their_buffer() {
             let mut twin = proved.clone();
             assert_eq!(agree(&Call::Check, &mut proved, &mut twin), Err(3));
             assert_eq!(agree(&Call::Remove(5), &mut proved, &mut twin), Err(3));
+            assert_eq!(agree(&Call::Which(0), &mut proved, &mut twin), Err(3));
             assert_eq!(agree(&Call::Replace(5, vec![b'M'; BLOCK]), &mut proved, &mut twin), Err(3));
         }
     }

@@ -3,17 +3,18 @@
 -- nothing.
 use mathlib.Core.Logic.{inl, inr}
 use mathlib.Core.Path.{_≡_, ap, refl, subst, sym}
-use Prim.Native.Nat.{ℕ, _*_, _+_, _-_}
+use Prim.Native.Nat.{_+_, _-_}
 use native.Mathlib.Omega.{arith}
 use lib.ListN.{length}
 use borrow.Author.Needs.{needs}
 use borrow.Author.Tests.{not-false, not-true}
-use Rattle.section.specs.Limits.{blockSize, mostFiles}
+use Rattle.section.specs.Limits.{mostFiles}
 use Rattle.piece_lists.proofs.Arrays.{length-of-mapped}
 use Rattle.table.proofs.FilesMoving.{FilesMoving, moving-can, moving-end, moving-kept, moving-long}
 use Rattle.table.specs.declared.Table.{Table}
 use Rattle.table.proofs.FilesMoving.{moving-more, moving-places, moving-start}
-use Rattle.settling.proofs.FreeBeside.{moving-beside, ready-beside, settling-in-order, withFree}
+use Rattle.settling.proofs.FreeBeside.{moving-beside, ready-beside, withFree}
+use Rattle.settling.proofs.MadeMerges.{made-in-order}
 use Rattle.settling.proofs.Settling.{Settling, settling-start, settling-ready, settling-copies, settling-more}
 use Rattle.settling.proofs.Settling.{settling-countable, settling-end}
 use Rattle.settling.proofs.settle.Statement.{statement}
@@ -40,7 +41,7 @@ merges-holds c =
     (settling-start (a .args .table) (a .args .disk .now) (a .pre), long)
 
 lowest-pair-requires : tie.Need-lowest-pair-requires Inv-files μ-files Inv-merges μ-merges
-lowest-pair-requires c κs = (c .merges .inv .0 .sized .free, settling-in-order _ _ _ _ _ (c .merges .inv .0))
+lowest-pair-requires c κs = made-in-order (c .merges .inv .0 .merges)
 
 copy-merge-requires : tie.Need-copy-merge-requires Inv-files μ-files Inv-merges μ-merges
 copy-merge-requires c κs =
@@ -53,7 +54,7 @@ copy-merge-requires c κs =
 add-copied : tie.Need-add-copied Inv-files μ-files Inv-merges μ-merges
 add-copied c =
     let v = c .before .before .before .before .before .before .before .merges .inv .0 in
-    omega (arith, v .bounded, c .before .before .copy-merge .ensures .most)
+    omega (arith, v .merges .bounded, c .before .before .copy-merge .ensures .most)
 
 buddy-requires : tie.Need-buddy-requires Inv-files μ-files Inv-merges μ-merges
 buddy-requires c κs =
@@ -150,17 +151,12 @@ merges-again c =
 same-length : tie.Need-same-length Inv-files μ-files Inv-merges μ-merges
 same-length c =
     let v = c .before .before .before .merges .inv .0 in
-    omega (
-      arith,
-      v .long,
-      ap (λ (b : ℕ). blockSize * b) (v .blocks),
-      c .before .before .before .before .before .before .pre .disk,
-    )
+    omega (arith, v .long, c .before .before .before .before .before .before .pre .disk)
 
 returns : tie.Need-returns Inv-files μ-files Inv-merges μ-merges
 returns c =
     let v = c .before .before .before .merges .inv in
-    settling-end _ _ _ _ _ (v .0) (v .1) _ (c .before .before .lowest-pair .ensures) (not-true _ (c .if1 .taken))
+    settling-end _ _ _ _ _ (v .0) _ (c .before .before .lowest-pair .ensures) (not-true _ (c .if1 .taken)) (v .1)
 
 pub settle-spec : {M : Type 1} → statement M
 settle-spec =

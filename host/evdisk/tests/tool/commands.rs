@@ -35,7 +35,7 @@ fn case_7_is_listed_and_drawn() {
 /// For (0,2) and (4,2) event 2 would be copied; (4,2) and (6,2) are the halves of (4,4).
 #[test]
 fn free_buddies_are_joined_first() {
-    for scratch in [Scratch::disk(8, &[(1, 1), (2, 2), (3, 3)]), Scratch::large_disk(8, &[(1, 1), (2, 2), (3, 3)])] {
+    for scratch in Scratch::disks(8, &[(1, 1), (2, 2), (3, 3)]) {
         let image = scratch.read("d");
         assert_eq!(scratch.does("remove d 1"), "removed 1: 0 blocks copied (contract limit 0)\n");
         assert_eq!(scratch.does("remove d 3"), "removed 3: 0 blocks copied (contract limit 3)\n");
@@ -51,7 +51,7 @@ fn free_buddies_are_joined_first() {
 #[test]
 fn shifted_events_are_read_back_equal() {
     let events: Vec<(u16, usize)> = (1..=40).map(|id| (id, 1 + usize::from(id) * 7 % 23)).collect();
-    for scratch in [Scratch::disk(500, &events), Scratch::large_disk(500, &events)] {
+    for scratch in Scratch::disks(500, &events) {
         every_other_is_removed(&scratch);
     }
 }

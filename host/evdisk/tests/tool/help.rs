@@ -45,7 +45,7 @@ fn the_limits_of_every_version_are_told() {
 fn the_manual_page_names_every_command_and_option() {
     for command in &COMMANDS {
         assert!(MANUAL.contains(&format!("\n\\fBevdisk {}\\fP ", command.name)), "{}", command.name);
-        let options = command.valued.iter().map(|(option, _)| *option).chain(command.flags.iter().copied());
+        let options = command.with_value().map(|(option, _)| option).chain(command.flags.iter().copied());
         for option in options {
             assert!(MANUAL.contains(&option.replace('-', "\\-")), "{} {option}", command.name);
         }

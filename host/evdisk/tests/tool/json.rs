@@ -9,6 +9,8 @@ fn after_value(text: &str) -> Option<&str> {
         '{' => after_list(text, '}', |text| after_value(after_text(text)?.strip_prefix(':')?)),
         '[' => after_list(text, ']', after_value),
         '"' => after_text(text),
+        't' => text.strip_prefix("true"),
+        'f' => text.strip_prefix("false"),
         _ => {
             let rest = text.trim_start_matches(|digit: char| digit.is_ascii_digit());
             let number = &text[..text.len() - rest.len()];
@@ -53,7 +55,22 @@ fn each_command_answers_in_json() {
     assert_eq!(json(&scratch, "breaks d 7"), r#"{"id":7,"breaks":1}"#);
     assert_eq!(json(&scratch, "free d"), r#"{"free":1}"#);
     assert_eq!(json(&scratch, "check d"), r#"{"blocks":16,"version":1}"#);
-    assert_eq!(json(&scratch, "remove d 2"), r#"{"id":2,"blocks":2,"copied":0,"limit":0}"#);
+    let removal = r#"{"id":2,"blocks":2,"copied":0,"limit":0"#;
+    assert_eq!(json(&scratch, "remove d 2 --dry-run"), format!(r#"{removal},"dry_run":true}}"#));
+    assert_eq!(json(&scratch, "remove d 2"), format!("{removal}}}"));
+}
+
+#[test]
+fn the_removals_that_make_room_are_a_list_in_json() {
+    let scratch = Scratch::case_6();
+    let short = r#","free":10,"fits":false,"removals":"#;
+    let five = r#"{"id":5,"blocks":3,"copied":1,"limit":2}"#;
+    let others = r#"{"id":2,"blocks":2,"copied":0,"limit":2},{"id":9,"blocks":1,"copied":0,"limit":0}"#;
+    assert_eq!(json(&scratch, "which d 11"), format!(r#"{{"blocks":11{short}[{others},{five}]}}"#));
+    assert_eq!(json(&scratch, "which d 13"), format!(r#"{{"blocks":13{short}[{five}]}}"#));
+    assert_eq!(json(&scratch, "which d 14"), format!(r#"{{"blocks":14{short}[]}}"#));
+    let fits = r#"{"blocks":3,"free":10,"fits":true,"removals":[]}"#;
+    assert_eq!(json(&scratch, "which d --file event-5"), fits);
 }
 
 #[test]

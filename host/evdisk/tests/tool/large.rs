@@ -101,6 +101,25 @@ fn events_on_the_greatest_disk_are_shifted_listed_drawn_and_read_back() {
     assert_eq!(rows.len(), 64 + 2 + 3 + 1);
 }
 
+/// The halves (16384,8192) and (24576,8192) are joined without a copy.
+#[test]
+fn the_removals_that_make_room_on_the_greatest_disk_are_listed() {
+    let scratch = greatest();
+    let table = "   id  blocks  copies   limit
+    3    8192       0    8192
+    1    8192    8192    8192
+    2    8192    8192    8192
+any one of these removals would make room for 1024001 blocks (1024000 free)
+";
+    assert_eq!(scratch.does("which d 1024001"), table);
+    assert_eq!(scratch.does("remove d 2 --dry-run"), "would remove 2: 8192 blocks copied (contract limit 8192)\n");
+    let file = File::create(scratch.path("hole")).expect("a scratch file");
+    file.set_len(1_024_001 * 512).expect("a file with a hole");
+    assert_eq!(scratch.does("which d --file hole"), table);
+    let said = scratch.says("add d 4 hole");
+    assert!(said.status == 1 && said.err.ends_with("; removing 3 would make room (0 blocks copied)\n"), "{said:?}");
+}
+
 /// The stored letter is the byte 1, which is none and ranks below R.
 #[test]
 fn an_event_on_the_greatest_disk_is_replaced_by_a_longer_one() {

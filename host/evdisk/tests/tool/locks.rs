@@ -12,13 +12,15 @@ use std::time::Duration;
 const BUSY: &str = "evdisk: d: another evdisk is at work on this disk; try again\n";
 /// The commands that change a disk, on that of case 6.
 const CHANGING: [&str; 4] = ["remove d 5", "add d 7 event-5", "replace d 5 event-5", "format d --force"];
+/// Some of those that only look, on the same disk.
+const LOOKING: [&str; 4] = ["list d", "which d 11", "which d --file event-5", "remove d 5 --dry-run"];
 
 #[test]
 fn a_disk_that_is_being_changed_is_left_alone() {
     let scratch = Scratch::case_6();
     let image = File::open(scratch.path("d")).expect("the image");
     image.lock().expect("nobody else has it");
-    for words in ["list d", "read d 5", "check d"].iter().chain(&CHANGING) {
+    for words in ["read d 5", "check d"].iter().chain(&LOOKING).chain(&CHANGING) {
         assert_eq!(scratch.refuses(words), (3, BUSY.to_string()), "evdisk {words}");
     }
     image.unlock().expect("we have it");
@@ -31,6 +33,7 @@ fn a_disk_that_is_being_looked_at_can_be_looked_at_but_not_changed() {
     let image = File::open(scratch.path("d")).expect("the image");
     image.lock_shared().expect("nobody else has it");
     assert_eq!(scratch.does("free d"), "10 blocks free\n");
+    assert!(LOOKING.iter().all(|words| !scratch.does(words).is_empty()));
     for words in CHANGING {
         assert_eq!(scratch.refuses(words), (3, BUSY.to_string()), "evdisk {words}");
     }
@@ -67,6 +70,10 @@ fn run_when_written(command: &mut Command) -> Said {
 fn a_reader_reads_a_disk_that_it_may_not_write() {
     let scratch = Scratch::case_6();
     assert_eq!(as_reader(&scratch, &["free", "d"]).out, "10 blocks free\n");
+    for words in LOOKING {
+        let said = as_reader(&scratch, &words.split(' ').collect::<Vec<_>>());
+        assert_eq!((said.status, said.out), (0, scratch.does(words)), "{words}");
+    }
     for words in CHANGING {
         let said = as_reader(&scratch, &words.split(' ').collect::<Vec<_>>());
         assert_eq!((said.status, said.err.as_str()), (3, "evdisk: d: Permission denied (os error 13)\n"), "{words}");

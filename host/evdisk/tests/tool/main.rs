@@ -5,6 +5,7 @@
 mod commands;
 mod crashes;
 mod cut;
+mod dry_run;
 mod help;
 mod json;
 mod large;
@@ -14,3 +15,4 @@ mod replacing;
 mod room;
 mod scratch;
 mod swapped;
+mod which;

@@ -13,7 +13,7 @@ fn complains(scratch: &Scratch, words: &str, status: i32, why: &str) {
     assert!(complaint.starts_with("evdisk: ") && complaint.contains(why), "evdisk {words}: {complaint}");
 }
 
-const SPACE: &str = "there are fewer free blocks than the file needs";
+const SPACE: &str = "there are fewer free blocks than the file needs; no single removal would make room";
 const LENGTH: &str = "the length is 0 or no multiple of 512 bytes";
 const END: &str = "the pages go past the end of the file";
 const NO_DISK: &str = "the disk is not 1 to 4,096 blocks of 512 bytes long, or 1 to 1,048,576 with the large catalogue";
@@ -26,7 +26,7 @@ fn the_managers_refusals_come_with_their_numbers() {
     let scratch = Scratch::case_6();
     scratch.write("odd", &[0; 511]);
     scratch.write("empty", &[]);
-    scratch.write("eleven", &[0; 11 * 512]);
+    scratch.write("fourteen", &[0; 14 * 512]);
     for words in ["remove d 0", "breaks d 0", "read d 0", "add d 0 odd", "replace d 0 odd"] {
         refused(&scratch, words, 5, "0 is no id");
     }
@@ -37,7 +37,7 @@ fn the_managers_refusals_come_with_their_numbers() {
     for words in ["add d 7 odd", "add d 7 empty", "read d 5 --pages 0", "replace d 5 odd", "replace d 5 empty"] {
         refused(&scratch, words, 8, LENGTH);
     }
-    refused(&scratch, "add d 7 eleven", 11, SPACE);
+    refused(&scratch, "add d 7 fourteen", 11, SPACE);
 }
 
 #[test]
@@ -107,7 +107,7 @@ fn wrong_command_lines_are_told_how_they_should_be() {
     let scratch = Scratch::case_6();
     complains(&scratch, "", 2, "which command?");
     complains(&scratch, "erase d", 2, "there is no command 'erase'");
-    complains(&scratch, "remove d", 2, "ID is missing\nusage: evdisk remove IMAGE ID [--json]\n");
+    complains(&scratch, "remove d", 2, "ID is missing\nusage: evdisk remove IMAGE ID [--dry-run] [--json]\n");
     complains(&scratch, "replace d 5", 2, "FILE is missing\nusage: evdisk replace IMAGE ID FILE [--json]\n");
     complains(&scratch, "remove d 5 9", 2, "'9' is too much");
     complains(&scratch, "remove d 5 --quick", 2, "--quick is no option of this command");
@@ -132,8 +132,9 @@ fn files_that_are_not_there_or_not_right_are_named() {
 }
 
 /// Commands that look at catalogue and image, and others that look at the catalogue alone.
-const BY_BOTH: [&str; 5] = ["add d 7 event-5", "remove d 5", "replace d 5 event-5", "read d 5", "check d"];
-const BY_CATALOGUE: [&str; 4] = ["list d", "breaks d 5", "free d", "map d"];
+const BY_BOTH: [&str; 6] =
+    ["add d 7 event-5", "remove d 5", "remove d 5 --dry-run", "replace d 5 event-5", "read d 5", "check d"];
+const BY_CATALOGUE: [&str; 5] = ["list d", "breaks d 5", "free d", "which d 11", "map d"];
 
 #[test]
 fn a_damaged_disk_is_refused_by_every_command() {

@@ -1,6 +1,6 @@
 //! Reviewed events in the place of raw ones: what `evdisk replace` does and says, and when it does not.
 
-use crate::scratch::Scratch;
+use crate::scratch::{Scratch, TWELVE};
 use event_disk::Refusal;
 use miniseed::Quality;
 use std::fs::File;
@@ -40,10 +40,9 @@ fn undated(scratch: &Scratch) -> Vec<String> {
 
 #[test]
 fn a_replacement_is_a_removal_and_an_add() {
-    let events: Vec<(u16, usize)> = (1..=12).map(|id| (id, [1, 3, 2, 7, 5, 1][usize::from(id) % 6])).collect();
     let mut copies = 0;
-    for old in [Scratch::disk(45, &events), Scratch::large_disk(45, &events)] {
-        for (id, length) in &events {
+    for old in Scratch::twelves() {
+        for (id, length) in TWELVE {
             for records in [1, 2, 5, 7 + length] {
                 old.reviewed("new", records, Quality::M);
                 let (two, one) = (old.copy(), old.copy());

@@ -29,6 +29,9 @@ impl Said {
 
 /// The events of case 6 in the order of adding: id and blocks.
 const CASE_6: [(u16, usize); 3] = [(5, 3), (9, 1), (2, 2)];
+/// Twelve events: id and blocks.
+pub const TWELVE: [(u16, usize); 12] =
+    [(1, 3), (2, 2), (3, 7), (4, 5), (5, 1), (6, 1), (7, 3), (8, 2), (9, 7), (10, 5), (11, 1), (12, 1)];
 /// The tool.
 pub const TOOL: &str = env!("CARGO_BIN_EXE_evdisk");
 
@@ -49,7 +52,17 @@ impl Scratch {
 
     /// Case 6 with the small catalogue, and with the large one.
     pub fn cases_6() -> [Scratch; 2] {
-        [Scratch::case_6(), Scratch::large_disk(16, &CASE_6)]
+        Scratch::disks(16, &CASE_6)
+    }
+
+    /// Twelve events on 45 blocks, of which 7 are free, with the small catalogue, and with the large one.
+    pub fn twelves() -> [Scratch; 2] {
+        Scratch::disks(45, &TWELVE)
+    }
+
+    /// A disk with these events and the small catalogue, and one with the large one.
+    pub fn disks(blocks: usize, events: &[(u16, usize)]) -> [Scratch; 2] {
+        [Scratch::disk(blocks, events), Scratch::large_disk(blocks, events)]
     }
 
     /// A folder with the disk `d` and events of these ids and lengths on it, each also in the file `event-ID`.

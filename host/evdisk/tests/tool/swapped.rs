@@ -19,7 +19,9 @@ fn decided_on(scratch: Scratch) -> Scratch {
 }
 
 fn complains(scratch: &Scratch, why: &str) {
-    for words in ["list d", "read d 9", "add d 7 event-2", "remove d 9", "replace d 9 event-2", "format d --force"] {
+    let looking = ["list d", "read d 9", "which d 3", "remove d 9 --dry-run"];
+    let changing = ["add d 7 event-2", "remove d 9", "replace d 9 event-2", "format d --force"];
+    for words in looking.into_iter().chain(changing) {
         let (status, complaint) = scratch.refuses(words);
         assert_eq!(status, 3, "evdisk {words}");
         assert!(complaint.starts_with("evdisk: d.redo: "), "evdisk {words}: {complaint}");

@@ -4,6 +4,7 @@
 mod free_buddies;
 mod replace;
 mod station;
+mod which;
 
 use event_disk::{Refusal, Version, BLOCK};
 use station::{bytes, page, Files, Station};

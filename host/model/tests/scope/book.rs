@@ -41,3 +41,14 @@ fn the_book_reads_and_strikes() {
     assert_eq!([book.remove(0), book.remove(8), book.remove(7), book.remove(7)], [Err(5), Err(6), Ok(()), Err(6)]);
     assert_eq!(book, Book::new(5));
 }
+
+#[test]
+fn the_book_knows_which_lines_suffice() {
+    let mut book = Book::new(8);
+    assert!([(7, 3), (2, 2), (5, 1)].iter().all(|&(id, pages)| book.add(id, &content(id, pages)) == Ok(pages.into())));
+    assert_eq!([book.which(0, 0), book.which(0, 64), book.which(1, 63), book.which(9, 65)], [8, 8, 14, 14].map(Err));
+    assert_eq!([book.which(1, 64), book.which(2, 64)], [Ok(None), Ok(None)]);
+    let ids = |n| book.which(n, 64).map(|ids| ids.map(Vec::from_iter));
+    assert_eq!([ids(3), ids(4), ids(5)], [vec![2, 5, 7], vec![2, 7], vec![7]].map(|ids| Ok(Some(ids))));
+    assert_eq!([ids(6), ids(u64::MAX)], [Ok(Some(vec![])), Ok(Some(vec![]))]);
+}

@@ -9,4 +9,5 @@ mod refusals;
 mod replace;
 mod soundness;
 mod versions;
+mod which;
 mod wrong_turns;

@@ -3,6 +3,7 @@
 mod free_buddies;
 mod replace;
 mod station;
+mod which;
 
 use station::{bytes_of, content, Pair, Station};
 use twin::{add, breaks, check, format, free, read, Version, BLOCK};

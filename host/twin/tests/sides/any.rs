@@ -2,11 +2,19 @@
 
 use super::numbers::Numbers;
 use super::Call;
-use twin::BLOCK;
+use twin::{BLOCK, MOST_FILES};
 
 /// A buffer's length: mostly pages, now and then with a byte more.
 pub fn buffer_length(numbers: &mut Numbers, pages: usize) -> usize {
     BLOCK * numbers.below(pages + 1) + usize::from(numbers.below(40) == 0)
+}
+
+/// A list's length: mostly the right one.
+pub fn list_length(numbers: &mut Numbers) -> usize {
+    match numbers.below(12) {
+        0 => numbers.below(2 * MOST_FILES + 2),
+        _ => MOST_FILES,
+    }
 }
 
 /// A content whose first page has one of these bytes in the place of its quality letter.
@@ -20,16 +28,21 @@ fn any_content(numbers: &mut Numbers, pages: usize, letters: &[u8]) -> Vec<u8> {
     content
 }
 
-/// Any call: ids below `ids`, contents up to `pages`.
-pub fn any_call(numbers: &mut Numbers, ids: usize, pages: usize) -> Call {
+/// Any call: ids below `ids`, contents up to `pages`. So many blocks are free, and mostly more are asked for.
+pub fn any_call(numbers: &mut Numbers, ids: usize, pages: usize, free: u64) -> Call {
     let id = numbers.below(ids) as u16;
-    match numbers.below(14) {
+    match numbers.below(16) {
         0..=4 => Call::Add(id, any_content(numbers, pages, b"RRRDDQM?")),
         5..=7 => Call::Remove(id),
         8..=9 => Call::Replace(id, any_content(numbers, pages, b"RDQQMMM?")),
         10 => Call::Read(id, numbers.below(pages + 2) as u64),
         11 => Call::Breaks(id),
         12 => Call::Free,
-        _ => Call::Check,
+        13 => Call::Check,
+        _ => Call::Which(match numbers.below(10) {
+            0 => numbers.below(2) as u64,
+            1 => numbers.next() >> numbers.below(64),
+            _ => free + numbers.below(pages + 2) as u64,
+        }),
     }
 }

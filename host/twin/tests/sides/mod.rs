@@ -3,14 +3,23 @@
 pub mod any;
 pub mod numbers;
 
-use event_disk::Refusal;
+use event_disk::{Refusal, Which};
+use twin::{BLOCK, FITS_ALREADY, MOST_FILES};
 
-/// A catalogue, a disk and an output.
+/// A catalogue, a disk, an output and a list.
 #[derive(Clone, PartialEq)]
 pub struct Buffers {
     pub cat: Vec<u8>,
     pub disk: Vec<u8>,
     pub out: Vec<u8>,
+    pub list: Vec<u16>,
+}
+
+impl Buffers {
+    /// With an output of one page and a list of the right length.
+    pub fn of(cat: Vec<u8>, disk: Vec<u8>) -> Buffers {
+        Buffers { cat, disk, out: vec![0; BLOCK], list: vec![0; MOST_FILES] }
+    }
 }
 
 /// A call with its arguments.
@@ -24,6 +33,15 @@ pub enum Call {
     Breaks(u16),
     Free,
     Check,
+    Which(u64),
+}
+
+/// The number of an answer of which.
+fn number(answer: Which) -> u64 {
+    match answer {
+        Which::FitsAlready => FITS_ALREADY,
+        Which::Removals(count) => count as u64,
+    }
 }
 
 fn on_proved(call: &Call, b: &mut Buffers) -> Result<u64, u8> {
@@ -36,6 +54,7 @@ fn on_proved(call: &Call, b: &mut Buffers) -> Result<u64, u8> {
         Call::Breaks(id) => event_disk::breaks(&b.cat, *id),
         Call::Free => event_disk::free(&b.cat),
         Call::Check => event_disk::check(&b.cat, &b.disk),
+        Call::Which(n) => event_disk::which(&b.cat, *n, &mut b.list).map(number),
     };
     answer.map_err(Refusal::number)
 }
@@ -50,6 +69,7 @@ fn on_twin(call: &Call, b: &mut Buffers) -> Result<u64, u8> {
         Call::Breaks(id) => twin::breaks(&b.cat, *id),
         Call::Free => twin::free(&b.cat),
         Call::Check => twin::check(&b.cat, &b.disk),
+        Call::Which(n) => twin::which(&b.cat, *n, &mut b.list),
     }
 }
 

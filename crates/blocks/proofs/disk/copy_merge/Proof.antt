@@ -1,14 +1,12 @@
 -- `copy_merge` makes the copies of a merge: none if the upper section is the buddy, else those of the gaps, and after
 -- `j` turns those before the first `j` pieces. Assumes nothing.
-use mathlib.Core.Path.{_∙_, ap, subst, sym}
+use mathlib.Core.Path.{ap, subst, sym}
 use Prim.Native.Nat.{_+_, _-_}
 use native.Mathlib.Omega.{arith}
 use borrow.Author.Needs.{needs}
 use Rattle.section.specs.Limits.{greatestDisk}
-use Rattle.section.specs.declared.Section.{Section}
 use Rattle.free_pieces.specs.Free.{freeOf}
-use Rattle.free_pieces.specs.Gaps.{gapCopies}
-use Rattle.free_pieces.proofs.GapSteps.{copies-gaps, copies-none, gap-ahead, gap-served}
+use Rattle.free_pieces.proofs.GapSteps.{copies-gaps, copies-none, counting-gap}
 use Rattle.blocks.specs.DiskCode.{Copied}
 use Rattle.blocks.proofs.DiskCopies.{Copying, copied-none, copying-end, copying-more, copying-most}
 use Rattle.blocks.proofs.DiskCopies.{copying-place, copying-rest, copying-run, copying-start}
@@ -27,10 +25,10 @@ buddy-requires c κs = c .before .before .before .pre .1 .lower .0
 
 returns : tie.Need-returns Inv-loop μ-loop
 returns c =
-    let a = c .before .before .before .before .before .before .before .args in
-    let e = ap (λ (s : Section). s .first) (c .before .before .before .buddy .ensures) in
+    let b = c .before .before .before in
+    let a = b .before .before .before .before .args in
     copied-none (a .disk .now) _
-    (copies-none (a .p .lower) (a .p .upper) (freeOf (a .p .others)) (omega (arith, e, c .if1 .taken)))
+    (copies-none (a .p) (b .buddy .result) (b .buddy .ensures) (omega (arith, c .if1 .taken)))
 
 loop-holds : tie.Need-loop-holds Inv-loop μ-loop
 loop-holds c =
@@ -49,12 +47,8 @@ section-requires c κs = search needs
 
 gap-before-requires : tie.Need-gap-before-requires Inv-loop μ-loop
 gap-before-requires c κs =
-    let k = c .before .before .before .loop .inv .counting in
-    let lt = c .before .before .loop-test .taken in
-    let is = c .section .ensures in (
-      (k .served, gap-served _ _ _ _ _ _ (k .within) lt is (k .left)),
-      gap-ahead _ _ _ _ _ _ (k .within) lt is (k .left),
-    )
+    let l = c .before .before in
+    counting-gap _ _ _ _ _ _ (l .before .loop .inv .counting) _ (l .loop-test .taken) (c .section .ensures)
 
 sub-copy-run : tie.Need-sub-copy-run Inv-loop μ-loop
 sub-copy-run c = c .before .before .before .before .before .before .loop .inv .counting .left .low
@@ -138,14 +132,10 @@ returns-2 c =
     let after = c .before .before .before .before .before .before .before in
     let l = after .before .loop in
     let i = after .before .before .before .if1 in
-    let buddy = after .before .before .before .before .before .before in
-    let b = buddy .buddy in
-    let a = buddy .before .before .before .before .args in
-    let e = ap (λ (s : Section). s .first) (b .ensures) in
-    let u = a .p .upper .first in
+    let b = after .before .before .before .before .before .before in
+    let a = b .before .before .before .before .args in
     subst (λ x. Copied (a .disk .now) (r .last .0) x greatestDisk (l .copied + r .result))
-    (ap (λ (s : Section). gapCopies s u (s .first) (freeOf (a .p .others))) (b .ensures)
-    ∙ sym (copies-gaps (a .p .lower) (a .p .upper) (freeOf (a .p .others)) (λ z. omega (arith, i .left, e, z))))
+    (sym (copies-gaps (a .p) (b .buddy .result) (b .buddy .ensures) (λ z. omega (arith, i .left, z))))
     (copying-end _ _ _ _ _ _ _ _ _ (l .inv) (omega (arith, after .loop-test .left)) _
     (ap (λ z. z - l .at) (c .before .before .before .end .ensures)) _ (r .result) (r .ensures .0) (r .ensures .1))
 

@@ -54,6 +54,12 @@ enum-told-12 c = search needs
 enum-told-13 : tie.Need-enum-told-13
 enum-told-13 c = search needs
 
+enum-told-14 : tie.Need-enum-told-14
+enum-told-14 c = search needs
+
+enum-told-15 : tie.Need-enum-told-15
+enum-told-15 c = search needs
+
 returns : tie.Need-returns
 returns c =
     let n = c .before .a .given .0 .0 in
@@ -101,6 +107,12 @@ returns-13 c = (sym (ap (λ a. codeOf (replyOf a)) (c .enum-told12 .given .1)), 
 returns-14 : tie.Need-returns-14
 returns-14 c = (sym (ap (λ a. codeOf (replyOf a)) (c .enum-told13 .given .1)), refl)
 
+returns-15 : tie.Need-returns-15
+returns-15 c = (sym (ap (λ a. codeOf (replyOf a)) (c .enum-told14 .given .1)), refl)
+
+returns-16 : tie.Need-returns-16
+returns-16 c = (sym (ap (λ a. codeOf (replyOf a)) (c .enum-told15 .given .1)), refl)
+
 pub code-spec : {M : Type 1} → statement M
 code-spec =
     tie.close
@@ -120,6 +132,8 @@ code-spec =
     enum-told-11
     enum-told-12
     enum-told-13
+    enum-told-14
+    enum-told-15
     returns
     returns-2
     returns-3
@@ -133,4 +147,6 @@ code-spec =
     returns-11
     returns-12
     returns-13
-    returns-14)
+    returns-14
+    returns-15
+    returns-16)

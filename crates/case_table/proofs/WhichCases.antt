@@ -1,12 +1,12 @@
--- Which removal would let n blocks in, computed in both versions: on document 02's two disks beside the book; what the
--- removals copy and let in, and on the bytes of catalogues, with 64 files too. Assumes nothing.
+-- Which removal would let n blocks in, computed: on document 02's two disks beside the book, the first with both
+-- catalogues; what the removals copy and let in; and on the bytes of catalogues, with 64 files too. Assumes nothing.
 use mathlib.Core.List.{List, map}
 use mathlib.Core.Path.{_≡_, refl}
 use Prim.Native.Nat.{ℕ}
 use Rattle.case_table.specs.BesideBook.{bookWithLines, fromFormatIn, linesFrom}
 use Rattle.case_table.specs.CaseBytes.{usedInLargeSix, usedInSix}
 use Rattle.case_table.specs.CaseRun.{performed}
-use Rattle.case_table.specs.RefusalTable.{filledUp, large, small}
+use Rattle.case_table.specs.RefusalTable.{filledUp, small}
 use Rattle.case_table.specs.WhichRows.{WhichRow, disks, expectedIn, expectedOn, fiveAsked, fiveCopies}
 use Rattle.case_table.specs.WhichRows.{fiveRemoved, fiveShown, fullRows, outcomeOn, sixAsked, sixRows, sixShown}
 use Rattle.case_table.specs.WhichRows.{stepIn}
@@ -26,18 +26,10 @@ pub five-files-asked : fromFormatIn 4096 16 fiveAsked ≡ fiveShown
 unfolding performed countFrom contentPages pagesInLines lineWith writeLine idsWithRoom
 five-files-asked = refl
 
-pub large-five-files-asked : fromFormatIn 16384 16 fiveAsked ≡ fiveShown
-unfolding performed countFrom contentPages pagesInLines lineWith writeLine idsWithRoom
-large-five-files-asked = refl
-
 -- the removals copy as many blocks as the order of the ids says, and let in as many as they were named for
 pub five-files-removed : fiveRemoved 4096 ≡ fiveCopies
 unfolding performed countFrom contentPages pagesInLines lineWith writeLine strikeLine
 five-files-removed = refl
-
-pub large-five-files-removed : fiveRemoved 16384 ≡ fiveCopies
-unfolding performed countFrom contentPages pagesInLines lineWith writeLine strikeLine
-large-five-files-removed = refl
 
 -- ---- on the bytes of a catalogue
 
@@ -59,10 +51,6 @@ large-case-six-gives = refl
 pub sixty-four-files-give : Gives 4096 (small .full) fullRows
 unfolding performed
 sixty-four-files-give = refl
-
-pub large-sixty-four-files-give : Gives 16384 (large .full) fullRows
-unfolding performed
-large-sixty-four-files-give = refl
 
 -- 64 lines in the book
 pub sixty-four-lines-give :

@@ -91,7 +91,9 @@ int64_t evdisk_replace(uint8_t *cat, size_t cat_length, uint8_t *disk, size_t di
 int64_t evdisk_read(const uint8_t *cat, size_t cat_length, const uint8_t *disk, size_t disk_length, uint16_t id,
                     uint64_t first, uint8_t *out, size_t out_length);
 
-/* Answers in how many pieces a file lies, less one. Refusals: -1, -3, -5, -6. */
+/* Answers how often the drive seeks when the pages of a file are read in order: at how many places in page order a
+ * piece does not start right after the one before it. That is at most the ones of the file's blocks in binary, less
+ * one. Refusals: -1, -3, -5, -6. */
 int64_t evdisk_breaks(const uint8_t *cat, size_t cat_length, uint16_t id);
 
 /* Answers the number of free blocks. Refusals: -1, -3. */

@@ -54,7 +54,7 @@ static void expect_others(void)
   expect("place of 9", disk[7 * EVDISK_BLOCK], 9);
 }
 
-/* As in case 7 the removal copies a block. A longer file comes to blocks 0 to 3, of which 9 had the last. */
+/* As in case 7 the removal copies a block. A longer file comes to (0,4), of which 9 had the last block. */
 static void longer(void)
 {
   case_6_lettered();
@@ -77,7 +77,8 @@ static void shorter(void)
   expect_others();
 }
 
-/* Space is short if there are more pages than 10 free blocks and 3 of the old file, and the letters come first. */
+/* Space is short if there are more pages than 10 free blocks and 3 of the old file, and the letters come first. As many
+ * pages come to (8,8) (0,4) (6,1). */
 static void longest(void)
 {
   case_6_lettered();

@@ -43,7 +43,7 @@ entry-wider d c e l m f = record {
 
 -- the pieces of a file, in an array that has a place for each
 module _ (e : Entry) (most : e .pieces .count ≤ piecePlaces) (places : length (e .pieces .items) ≡ piecePlaces) where
-  pub pieces-count : length (piecesIn e) ≡ e .pieces .count
+  pieces-count : length (piecesIn e) ≡ e .pieces .count
   unfolding listOf
   pieces-count =
       length-take-le (e .pieces .count) (seen (e .pieces .items)) (omega (arith, seen-length (e .pieces .items)))

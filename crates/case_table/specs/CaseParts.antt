@@ -63,9 +63,9 @@ layoutBeforeEleven =
 abbrev pub fileTwo : FileSeen
 fileTwo = fileSeen 2 0 (4 ∷ 5 ∷ []) (32 ∷ 33 ∷ [])
 
--- id 5 in cases 4 to 6 and 8
+-- id 5 in cases 4 to 6 and 8: its pieces adjoin
 abbrev pub fileFive : FileSeen
-fileFive = fileSeen 5 1 (0 ∷ 1 ∷ 2 ∷ []) (80 ∷ 81 ∷ 82 ∷ [])
+fileFive = fileSeen 5 0 (0 ∷ 1 ∷ 2 ∷ []) (80 ∷ 81 ∷ 82 ∷ [])
 
 -- id 7 in case 8
 abbrev pub fileSeven : FileSeen

@@ -1,6 +1,6 @@
--- Cases 1 to 11 of document 01, "Small disks by hand", as one table, written out by hand; case 7 with the copies of
--- document 02, W2. Further rows have reads of parts, calls that are refused, the removals of `mergeRows` and of
--- `buddyRows`, and the lengths of `lengthRows`. `cases-hold` of `Cases` computes all rows together. Definitions only.
+-- Cases 1 to 11 of document 01, "Small disks by hand", as one table, written by hand, with the copies of document 02,
+-- W2, and the breaks of W5; then reads of parts, calls that are refused, the removals of `mergeRows` and `buddyRows`,
+-- and the lengths of `lengthRows`. `cases-hold` of `Cases` computes all rows together. Definitions only.
 use mathlib.Core.List.{List, [], _++_, _∷_}
 use lib.ListN.{replicate}
 use Rattle.case_table.specs.CaseParts.{fileFive, fileNine, fileNineMoved, fileSeven, fileTwo}
@@ -127,11 +127,12 @@ caseTable =
       files = fileSeen 2 0 (4 ∷ []) (32 ∷ []) ∷ [];
       disk = 32 ∷ 255 ∷ 255 ∷ 255 ∷ 32 ∷ [];
     }
-    -- case 11, and a read of the whole of id 2: blocks 0 to 3, 14, 15, 13, with what was in 0 to 6
+    -- case 11, with the breaks of id 2 before and after the removal, and a read of the whole of it: blocks 0 to 3, 14,
+    -- 15, 13, with what was in 0 to 6
     ∷ record {
       start = givenLayout layoutBeforeEleven;
-      calls = remove 1 ∷ read 2 0 (untouched 7) ∷ [];
-      replies = answer 3 ∷ pagesRead 7 (0 ∷ 1 ∷ 2 ∷ 3 ∷ 4 ∷ 5 ∷ 6 ∷ []) ∷ [];
+      calls = breaks 2 ∷ remove 1 ∷ breaks 2 ∷ read 2 0 (untouched 7) ∷ [];
+      replies = answer 0 ∷ answer 3 ∷ answer 2 ∷ pagesRead 7 (0 ∷ 1 ∷ 2 ∷ 3 ∷ 4 ∷ 5 ∷ 6 ∷ []) ∷ [];
       copies = copied 6 13 ∷ copied 4 14 ∷ copied 5 15 ∷ [];
       layout =
           laidOut 16
@@ -140,7 +141,7 @@ caseTable =
           (pairAt 4 4 ∷ []);
       files =
           fileSeen 2 2 (0 ∷ 1 ∷ 2 ∷ 3 ∷ 14 ∷ 15 ∷ 13 ∷ []) (0 ∷ 1 ∷ 2 ∷ 3 ∷ 4 ∷ 5 ∷ 6 ∷ [])
-          ∷ fileSeen 3 1 (8 ∷ 9 ∷ 10 ∷ 11 ∷ 12 ∷ []) (8 ∷ 9 ∷ 10 ∷ 11 ∷ 12 ∷ []) ∷ [];
+          ∷ fileSeen 3 0 (8 ∷ 9 ∷ 10 ∷ 11 ∷ 12 ∷ []) (8 ∷ 9 ∷ 10 ∷ 11 ∷ 12 ∷ []) ∷ [];
       disk = 0 ∷ 1 ∷ 2 ∷ 3 ∷ 4 ∷ 5 ∷ 6 ∷ 7 ∷ 8 ∷ 9 ∷ 10 ∷ 11 ∷ 12 ∷ 6 ∷ 4 ∷ 5 ∷ [];
     }
     -- case 4 with reads of parts

@@ -4,15 +4,16 @@ use mathlib.Core.List.{List, [], _∷_}
 use mathlib.Core.Logic.{_↔_}
 use mathlib.Core.Path.{_∙_, _≡_, refl, sym}
 use Prim.Native.Nat.{_-_, _≤_, ℕ}
+use lib.Count.{ones}
 use lib.IntN.{negℤ, pos}
-use lib.ListN.{length}
 use Rattle.catalogue.specs.declared.Version.{Version}
 use Rattle.layout.specs.Carries.{carries}
-use Rattle.layout.specs.Layout.{File, Layout, breaksOf, fileBlocks, findFile, found, freeBlocks}
+use Rattle.layout.proofs.Breaks.{breaks-at-pages}
+use Rattle.layout.specs.Layout.{File, Layout, fileBlocks, findFile, found, freeBlocks}
 use Rattle.manager.specs.Book.{Book, inBook, refuses}
 use Rattle.manager.specs.Call.{Call, breaks, outputOf, remove, replace}
 use Rattle.manager.proofs.ClaimWords.{output-but-which}
-use Rattle.manager.specs.Claimed.{Asking, CopiesClaimed}
+use Rattle.manager.specs.Claimed.{Asking, BreaksClaimed, CopiesClaimed}
 use Rattle.manager.specs.Outcomes.{formatOutcome, perform}
 use Rattle.manager.specs.Table.{CatalogueOf}
 use Rattle.manager.specs.WholeList.{Afterwards}
@@ -49,12 +50,14 @@ pub code-replacement-claims : (i n : ℕ) (bs cat d : List ℕ) (b : Book) (r : 
     → CodeAgrees (replace i bs) cat d b r → r .code ≡ pos n → CopiesClaimed i n cat b
 code-replacement-claims i n bs cat d b r a e = (λ l f. a .copies i n l f refl e, λ x. a .limit i n x refl e)
 
--- breaks that give back n: the pieces of the file in the catalogue less one
+-- breaks that give back n: the pages of the file, in the blocks of its pieces in page order, at which the one before is
+-- not in the block right before; and at most the ones of the file's blocks less one
 pub code-breaks-claims : (i n : ℕ) (cat d : List ℕ) (b : Book) (r : Returned) → CodeAgrees (breaks i) cat d b r
-    → r .code ≡ pos n → (l : Layout) (f : File) → CatalogueOf cat l → findFile i (l .files) ≡ found f
-    → n ≡ length (f .pieces) - 1
-unfolding breaksOf
-code-breaks-claims i n cat d b r a e l f = a .breaks-answer i n l f refl e
+    → r .code ≡ pos n → BreaksClaimed i n cat b
+code-breaks-claims i n cat d b r a e = (
+  λ l f w there. a .breaks-answer i n l f refl e w there ∙ breaks-at-pages (f .pieces),
+  λ x. a .breaks-limit i n x refl e,
+)
 
 -- ---- a list
 
@@ -95,3 +98,9 @@ pub exported-replacement-limit : ExportedList → (bs cat d : List ℕ) (r : Ret
     → AsPromised (perform (replace i bs) cat d) r → CatalogueOf cat l → findFile i (l .files) ≡ found f
     → r .code ≡ pos n → n ≤ carries 21 (freeBlocks l) (fileBlocks f)
 exported-replacement-limit w bs cat d r l i n f = w .limit (replace i bs) cat d r l i n f refl
+
+-- breaks on any sound catalogue are at most the ones of the file's blocks less one
+pub exported-breaks-limit : ExportedList → (cat d : List ℕ) (r : Returned) (l : Layout) (i n : ℕ) (f : File)
+    → AsPromised (perform (breaks i) cat d) r → CatalogueOf cat l → findFile i (l .files) ≡ found f
+    → r .code ≡ pos n → n ≤ ones (fileBlocks f) - 1
+exported-breaks-limit w = w .breaks-limit

@@ -18,7 +18,7 @@ use Rattle.manager.proofs.Untouched.{format-keeps-disk}
 use Rattle.manager.proofs.WhichCases.{which-count}
 use Rattle.manager.proofs.WholeList.{whole-list}
 use Rattle.manager.specs.Book.{Book, freshBook, inAnyOrder, inBook, mostLines}
-use Rattle.manager.specs.Call.{Call, ListedCall, breaks, outputOf, which}
+use Rattle.manager.specs.Call.{Call, ListedCall, breaks, outputOf}
 use Rattle.manager.specs.Claimed.{Asking}
 use Rattle.manager.specs.Conditions.{Reply, answered, fitsAlready, refused}
 use Rattle.manager.specs.Outcomes.{formatOutcome, perform}
@@ -26,14 +26,12 @@ use Rattle.manager.specs.WholeList.{Alters, CallAgrees, Follows, OutputsAgree, 
 use Rattle.section.specs.Limits.{heightCount, mostFiles}
 use Rattle.evdisk.proofs.CodesApart.{code-answer}
 use Rattle.evdisk.proofs.CodesOfBook.{alters-by, code-of-book}
+use Rattle.evdisk.proofs.Within.{breaks-apart}
 use Rattle.evdisk.specs.Codes.{codeOf, fitsNumber}
 use Rattle.evdisk.specs.ExportedList.{AltersBy, AsPromised, CodeAgrees, CodesFollow, ExportedCall}
 use Rattle.evdisk.specs.ExportedList.{ExportedList, Promised, Returned}
 
 -- ---- a call
-
-breaks-apart : (i n : ℕ) (o : List ℕ) → breaks i ≡ which n o → ⊥
-breaks-apart i n o e = let z : _≡_ {A = ℕ} 0 1 = cc in omega arith
 
 module _ (c : Call) (cat d : List ℕ) (r : Returned) (p : AsPromised (perform c cat d) r) where
   answer-by-code : (n : ℕ) → (Asking c → n ≡ fitsNumber → ⊥) → r .code ≡ pos n → perform c cat d .reply ≡ answered n
@@ -74,6 +72,7 @@ module _ (c : Call) (cat d : List ℕ) (r : Returned) (p : AsPromised (perform c
     copies = λ i n l f e q. a .copies i n l f e (strikes-by-code i n e q);
     limit = λ i n x e q. a .limit i n x e (strikes-by-code i n e q);
     breaks-answer = λ i n l f e q. a .breaks-answer i n l f e (breaks-by-code i n e q);
+    breaks-limit = λ i n x e q. a .breaks-limit i n x e (breaks-by-code i n e q);
     which-order =
         λ n k o l e q few w.
         subst (λ z. InCopyOrder heightCount l (take k z)) (sym (p .output))
@@ -156,4 +155,7 @@ exported-list = record {
   list = λ c cat d r p. format-list cat d r p c;
   refused-keeps = refused-kept;
   limit = λ c cat d r l i n f t p w e q. whole-list .limit c cat d l i n f t w e (strikes-by-code c cat d r p i n t q);
+  breaks-limit =
+      λ cat d r l i n f p w e q.
+      whole-list .breaks-limit cat d l i n f w e (breaks-by-code (breaks i) cat d r p i n refl q);
 }

@@ -2,7 +2,8 @@
 -- Definitions only.
 use mathlib.Core.Path.{_≡_}
 use mathlib.Core.List.{List}
-use Prim.Native.Nat.{ℕ, _≤_}
+use Prim.Native.Nat.{ℕ, _-_, _≤_}
+use lib.Count.{ones}
 use lib.IntN.{ℤ, pos, negℤ}
 use mir.Syntax.{w64}
 use mir.Val.{ofZ, toZ}
@@ -30,3 +31,9 @@ abbrev pub CodeWithinCarries : List ℕ → ℕ → ℤ → Type 0
 CodeWithinCarries cat i r =
     (l : Layout) (f : File) (n : ℕ) → CatalogueOf cat l → findFile i (l .files) ≡ found f
     → r ≡ pos n → n ≤ carries heightCount (freeBlocks l) (fileBlocks f)
+
+-- a number that is no refusal is at most the ones of the blocks of the file i, less one
+abbrev pub CodeWithinOnes : List ℕ → ℕ → ℤ → Type 0
+CodeWithinOnes cat i r =
+    (l : Layout) (f : File) (n : ℕ) → CatalogueOf cat l → findFile i (l .files) ≡ found f
+    → r ≡ pos n → n ≤ ones (fileBlocks f) - 1

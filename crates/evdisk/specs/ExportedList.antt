@@ -5,6 +5,7 @@
 use mathlib.Core.List.{List, [], _∷_}
 use mathlib.Core.Path.{_≡_}
 use Prim.Native.Nat.{_-_, _≤_, ℕ}
+use lib.Count.{ones}
 use lib.IntN.{ℤ, negℤ, pos}
 use lib.ListN.{drop, length, replicate, take}
 use Rattle.catalogue.specs.declared.Version.{Version}
@@ -95,6 +96,9 @@ pub record CodeAgrees (c : Call) (cat d : List ℕ) (b : Book) (r : Returned) : 
   -- breaks gives back the breaks of the file's pieces in the catalogue
   pub breaks-answer : (i n : ℕ) (l : Layout) (f : File) → c ≡ breaks i → r .code ≡ pos n → CatalogueOf cat l
       → findFile i (l .files) ≡ found f → n ≡ breaksOf (f .pieces)
+  -- and these are at most the ones of n less one
+  pub breaks-limit : (i n : ℕ) (x : Line) → c ≡ breaks i → r .code ≡ pos n → lineWith i (b .lines) ≡ line x
+      → n ≤ ones (length (x .pages)) - 1
   -- if `which` gives back k, at most 64, the k ids that it writes stand by the copies of the removals of their files,
   -- equal counts by lower id, and zeros behind them
   pub which-order : (n k : ℕ) (o : List ℕ) (l : Layout) → c ≡ which n o → r .code ≡ pos k → k ≤ mostFiles
@@ -131,3 +135,7 @@ pub record ExportedList : Type 0 where
   pub limit : (c : Call) (cat d : List ℕ) (r : Returned) (l : Layout) (i n : ℕ) (f : File) → Strikes i c
       → AsPromised (perform c cat d) r → CatalogueOf cat l → findFile i (l .files) ≡ found f
       → r .code ≡ pos n → n ≤ carries heightCount (freeBlocks l) (fileBlocks f)
+  -- and so does the limit on breaks
+  pub breaks-limit : (cat d : List ℕ) (r : Returned) (l : Layout) (i n : ℕ) (f : File)
+      → AsPromised (perform (breaks i) cat d) r → CatalogueOf cat l → findFile i (l .files) ≡ found f
+      → r .code ≡ pos n → n ≤ ones (fileBlocks f) - 1

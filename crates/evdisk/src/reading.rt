@@ -4,7 +4,7 @@ ghost use mathlib.Core.Path.{_≡_};
 ghost use Rattle.manager.specs.Call.{breaks, check, free, read, which};
 ghost use Rattle.manager.specs.Outcomes.{breaksOutcome, checkOutcome, freeOutcome, perform, readOutcome};
 ghost use Rattle.manager.specs.Outcomes.{whichOutcome};
-ghost use Rattle.evdisk.specs.Codes.{codeOf};
+ghost use Rattle.evdisk.specs.Codes.{CodeWithinOnes, codeOf};
 ghost use Rattle.evdisk.specs.ExportedList.{AsPromised, AsPromisedBeside, returned};
 use super::codes::code;
 
@@ -27,11 +27,13 @@ pub extern "C" fn evdisk_read(cat: &[u8], disk: &[u8], id: u16, first: u64, out:
     code(a)
 }
 
-// The breaks of a file. Whatever disk the caller has stays as it is.
+// The breaks of a file: how many pieces in page order do not start right after the one before them. Whatever disk the
+// caller has stays as it is.
 #[no_mangle]
 pub extern "C" fn evdisk_breaks(cat: &[u8], id: u16) -> i64
     ensures answer { λ r. ⌜ r ≡ codeOf (breaksOutcome id (now (cat .entry)) .reply) ⌝ }
     ensures catalogue { λ _. ⌜ now (cat .exit) ≡ breaksOutcome id (now (cat .entry)) .catalogue ⌝ }
+    ensures limit { λ r. ⌜ CodeWithinOnes (now (cat .entry)) id r ⌝ }
     ensures listed { λ r. ⌜ AsPromisedBeside (perform (breaks id) (now (cat .entry))) r (now (cat .exit)) [] ⌝ }
 {
     let a = event_disk::breaks(cat, id);

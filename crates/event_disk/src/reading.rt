@@ -2,6 +2,7 @@
 ghost use mathlib.Core.Path.{_≡_};
 ghost use Rattle.manager.specs.Outcomes.{breaksOutcome, checkOutcome, freeOutcome, readOutcome, whichOutcome};
 ghost use Rattle.looking.specs.Answers.{replyOf};
+ghost use Rattle.event_disk.specs.Limit.{WithinOnes};
 use crate::catalogues::open;
 use looking::Answer;
 
@@ -24,10 +25,11 @@ pub fn read(cat: &[u8], disk: &[u8], id: u16, first: u64, out: &mut [u8]) -> Ans
     looking::read_in(disk, table, id, first, out)
 }
 
-// Answers how many breaks a file has.
+// Answers how many breaks a file has: how many pieces in page order do not start right after the one before them.
 pub fn breaks(cat: &[u8], id: u16) -> Answer
     ensures answer { λ r. ⌜ replyOf r ≡ breaksOutcome id (now (cat .entry)) .reply ⌝ }
     ensures catalogue { λ _. ⌜ now (cat .exit) ≡ breaksOutcome id (now (cat .entry)) .catalogue ⌝ }
+    ensures limit { λ r. ⌜ WithinOnes (now (cat .entry)) id (replyOf r) ⌝ }
 {
     let o = open(cat);
     if !o.entered {

@@ -1,11 +1,10 @@
--- Cases 5, 6 and 8 of document 01 on layouts, splits through all heights, the files of case 6 by id, page order,
--- breaks and blocks in a range, in literal numbers. Assumes nothing.
+-- Cases 5, 6 and 8 of document 01 on layouts, splits through all heights, the files of case 6 by id, page order and
+-- blocks in a range, in literal numbers. Assumes nothing.
 use mathlib.Core.Bool.{false, true}
 use mathlib.Core.List.{[], _∷_}
 use mathlib.Core.Path.{_≡_, refl}
 use Rattle.layout.specs.Adding.{allocate, allocated, takeFirst, takePiece, tooFew, withFile}
-use Rattle.layout.specs.Layout.{breaksOf, byLength, findFile, found, freeBlocks, hasFile, inRange}
-use Rattle.layout.specs.Layout.{missing}
+use Rattle.layout.specs.Layout.{byLength, findFile, found, freeBlocks, hasFile, inRange, missing}
 use Rattle.layout.specs.Lists.{insertBy, sortBy}
 use Rattle.section.specs.Sections.{section}
 use Rattle.layout.specs.Cases.{caseSix, disk, five, nine}
@@ -75,11 +74,3 @@ case-eleven-order = refl
 pub blocks-in-range : inRange 3 4 2 ∷ inRange 4 4 2 ∷ inRange 5 4 2 ∷ inRange 6 4 2 ∷ [] ≡ 0 ∷ 1 ∷ 1 ∷ 0 ∷ []
 unfolding inRange
 blocks-in-range = refl
-
--- one piece has no break, the two of case 4 have one, the three of case 11 have two
-pub breaks-of-cases :
-    breaksOf (section 7 0 ∷ []) ∷ breaksOf (section 0 1 ∷ section 2 0 ∷ [])
-    ∷ breaksOf (section 0 2 ∷ section 14 1 ∷ section 13 0 ∷ []) ∷ []
-    ≡ 0 ∷ 1 ∷ 2 ∷ []
-unfolding breaksOf
-breaks-of-cases = refl

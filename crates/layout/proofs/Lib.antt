@@ -40,6 +40,8 @@ pub mod Removed
 pub mod Added
 pub mod PiecesFrom
 pub mod Fresh
+pub mod Breaks
+pub mod BreaksReached
 pub mod Ones
 pub mod FreshPieces
 pub mod Soundness

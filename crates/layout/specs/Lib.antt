@@ -4,6 +4,8 @@ pub mod Layout
 pub mod LookingUp
 pub mod Adding
 pub mod Removing
+pub mod BreakLimit
+pub mod BreakRows
 pub mod Carries
 pub mod Sound
 pub mod Loop

@@ -9,6 +9,12 @@ abbrev pub sumOf {ℓ} : {A : Type ℓ} → (A → ℕ) → List A → ℕ
 sumOf w [] = 0
 sumOf w (a ∷ l) = w a + sumOf w l
 
+-- the sum of a measure over each element and the one right after it
+abbrev pub sumNext : {A : Type 0} → (A → A → ℕ) → List A → ℕ
+sumNext w [] = 0
+sumNext w (a ∷ []) = 0
+sumNext w (a ∷ b ∷ l) = w a b + sumNext w (b ∷ l)
+
 -- 1 for a test that is passed, else 0: a sum of these counts
 abbrev pub indicator : Bool → ℕ
 indicator true = 1

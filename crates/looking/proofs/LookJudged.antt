@@ -1,9 +1,8 @@
 -- Breaks and checks in code: by what each is refused, and what it answers. Assumes nothing.
 use mathlib.Core.List.{List, [], _∷_}
 use mathlib.Core.Path.{_∙_, _≡_, ap, ap₂, sym}
-use Prim.Native.Nat.{_*_, _-_, _≤_, ℕ}
+use Prim.Native.Nat.{_*_, ℕ}
 use lib.ListN.{length}
-use Rattle.blocks.proofs.DiskPieces.{pieces-count}
 use Rattle.looking.proofs.LookChecks.{disk-right, disk-wrong, id-found, id-missing, id-zero}
 use Rattle.layout.specs.Layout.{File, Layout, breaksOf, findFile, found, missing}
 use Rattle.layout.specs.Lists.{done}
@@ -12,17 +11,10 @@ use Rattle.manager.specs.Conditions.{Reply, answered, condition, fileChecks, fi
 use Rattle.manager.specs.Conditions.{wrongDisk}
 use Rattle.manager.specs.Outcomes.{breaksFound}
 use Rattle.section.specs.Limits.{blockSize}
-use Rattle.piece_lists.specs.Few.{piecePlaces}
-use Rattle.table.specs.Tables.{layoutOf, piecesIn}
-use Rattle.table.specs.declared.Entry.{Entry}
+use Rattle.table.specs.Tables.{layoutOf}
 use Rattle.table.specs.declared.Table.{Table}
 
 -- ---- breaks
-
-pub breaks-count : (e : Entry) → e .pieces .count ≤ piecePlaces → length (e .pieces .items) ≡ piecePlaces
-    → e .pieces .count - 1 ≡ breaksOf (piecesIn e)
-unfolding breaksOf
-breaks-count e most places = ap (λ n. n - 1) (sym (pieces-count e most places))
 
 module _ (l : Layout) (i : ℕ) where
   abbrev Breaks : Reply → Type 0

@@ -9,7 +9,7 @@ use Rattle.blocks.proofs.DiskFits.{entry-on-disk}
 use Rattle.blocks.specs.DiskCode.{EntryFits}
 use Rattle.looking.specs.Opened.{Opened}
 use Rattle.layout.proofs.Finding.{find-each, find-file, found-find}
-use Rattle.layout.proofs.Lists.{each-left}
+use Rattle.layout.proofs.Lists.{each-imp, each-left}
 use Rattle.layout.proofs.LookingUp.{sound-rises}
 use Rattle.layout.specs.Layout.{File, OnDisk, blockCount, fileBlocks, filePieces, findFile, found, hasFile, isFound}
 use Rattle.layout.specs.Layout.{missing}
@@ -17,8 +17,10 @@ use Rattle.layout.specs.Lists.{Each}
 use Rattle.layout.specs.LookingUp.{ByRisingId}
 use Rattle.layout.specs.Removals.{Find}
 use Rattle.section.specs.Limits.{blockSize, greatestDisk}
+use Rattle.section.specs.Sections.{Addressable}
 use Rattle.piece_lists.proofs.EachItem.{each-get, each-taken}
 use Rattle.table.proofs.LookUps.{look-up-file}
+use Rattle.table.proofs.ReadyPairs.{served}
 use Rattle.table.proofs.Released.{find-at}
 use Rattle.table.specs.Files.{entryAt, noEntry}
 use Rattle.table.specs.LookUps.{FirstOf, LooksUp, foundAt}
@@ -76,6 +78,10 @@ module _ (t : Table) (opened : Opened t) (id i : ℕ) (x : FirstOf t id i) where
   small : t .blocks ≤ greatestDisk
   unfolding layoutOf
   small = opened .rules .most-blocks
+
+  -- what the breaks of its pieces ask for
+  pub looked-served : Each Addressable (piecesIn (entryAt t i))
+  looked-served = each-imp (served (t .blocks) small) looked-disk
 
   -- what the functions on blocks ask for
   pub looked-fits : EntryFits (blockSize * t .blocks) (entryAt t i)

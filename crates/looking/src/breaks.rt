@@ -1,26 +1,14 @@
 // The breaks of a file.
 ghost use mathlib.Core.Path.{_≡_};
-ghost use Prim.Native.Nat.{_≤_};
-ghost use Rattle.layout.specs.Layout.{blockCount, breaksOf, findFile};
-ghost use Rattle.piece_lists.specs.Few.{piecePlaces};
-ghost use Rattle.table.specs.Tables.{layoutOf, piecesIn};
+ghost use Rattle.layout.specs.Layout.{findFile};
+ghost use Rattle.table.specs.Tables.{layoutOf};
 ghost use Rattle.manager.specs.Conditions.{fileChecks, firstRefusal, replyUnless};
 ghost use Rattle.manager.specs.Outcomes.{breaksFound};
 ghost use Rattle.looking.specs.Answers.{replyOf};
 ghost use Rattle.looking.specs.Opened.{Opened};
 use crate::Answer;
-use table::Entry;
 use table::FileAt;
 use table::Table;
-
-// The pieces of a file less one.
-fn breaks_of(e: Entry) -> u32
-    requires { ⌜ (1 ≤ blockCount (piecesIn e)) × (e .pieces .count ≤ piecePlaces) ⌝ }
-    ensures { λ r. ⌜ r ≡ breaksOf (piecesIn e) ⌝ }
-{
-    let list = e.pieces;
-    (list.count - 1) as u32
-}
 
 // How many breaks a file has.
 pub fn breaks_in(t: Table, id: u16) -> Answer
@@ -38,6 +26,7 @@ pub fn breaks_in(t: Table, id: u16) -> Answer
     };
     let files = t.files;
     let e = files[i];
-    let n = breaks_of(e);
+    let list = e.pieces;
+    let n = list.breaks();
     Answer::Number(n)
 }

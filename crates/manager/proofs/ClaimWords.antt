@@ -2,21 +2,20 @@
 -- this. Assumes nothing.
 use mathlib.Core.List.{List, [], _∷_}
 use mathlib.Core.Logic.{_↔_, _⊎_, inl, inr}
-use mathlib.Core.Path.{_≡_, ap, refl, subst, sym}
-use Prim.Native.Nat.{_*_, _-_, _<_, _≤_, ℕ}
+use mathlib.Core.Path.{_∙_, _≡_, ap, refl, subst, sym}
+use Prim.Native.Nat.{_*_, _<_, _≤_, ℕ}
 use native.Mathlib.Omega.{arith}
 use lib.ListN.{length}
 use Rattle.catalogue.specs.Version.{here, later, version1, version2}
 use Rattle.catalogue.specs.declared.Version.{Version}
-use Rattle.layout.specs.Layout.{File, Layout, breaksOf, findFile, found}
+use Rattle.layout.proofs.Breaks.{breaks-at-pages}
 use Rattle.manager.proofs.OnlyWhich.{Ordered, ordered-or-which}
 use Rattle.manager.specs.Book.{Book, BookReply, answers, anyNumber, fits, inAnyOrder, inBook, refuses}
 use Rattle.manager.specs.Call.{Call, ListedCall, TwoByteId, add, breaks, check, free, read, remove, replace}
 use Rattle.manager.specs.Call.{which}
-use Rattle.manager.specs.Claimed.{Asking, Changing, Claimed, CopiesClaimed}
+use Rattle.manager.specs.Claimed.{Asking, BreaksClaimed, Changing, Claimed, CopiesClaimed}
 use Rattle.manager.specs.Conditions.{Reply, answered, fitsAlready, refused}
 use Rattle.manager.specs.Outcomes.{perform}
-use Rattle.manager.specs.Table.{CatalogueOf}
 use Rattle.manager.specs.Arguments.{idOf}
 use Rattle.manager.specs.WholeList.{Afterwards, Alters, Answered, CallAgrees, Follows, OutputsAgree}
 use Rattle.manager.specs.WholeList.{RepliesAgree, RightLengths, WholeList}
@@ -184,9 +183,11 @@ pub replacement-claims : (i k : ℕ) (bs cat d : List ℕ) (b : Book) → CallAg
     → perform (replace i bs) cat d .reply ≡ answered k → CopiesClaimed i k cat b
 replacement-claims i k bs cat d b a e = (λ l f. a .copies i k l f refl e, λ x. a .limit i k x refl e)
 
--- answered breaks: the pieces of the file in the catalogue less one
+-- answered breaks: the pages of the file, in the blocks of its pieces in page order, at which the one before is not in
+-- the block right before; and at most the ones of n less one
 pub breaks-claims : (i k : ℕ) (cat d : List ℕ) (b : Book) → CallAgrees (breaks i) cat d b
-    → perform (breaks i) cat d .reply ≡ answered k → (l : Layout) (f : File) → CatalogueOf cat l
-    → findFile i (l .files) ≡ found f → k ≡ length (f .pieces) - 1
-unfolding breaksOf
-breaks-claims i k cat d b a e l f = a .breaks-answer i k l f refl e
+    → perform (breaks i) cat d .reply ≡ answered k → BreaksClaimed i k cat b
+breaks-claims i k cat d b a e = (
+  λ l f w there. a .breaks-answer i k l f refl e w there ∙ breaks-at-pages (f .pieces),
+  λ x. a .breaks-limit i k x refl e,
+)

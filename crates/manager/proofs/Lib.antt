@@ -18,6 +18,7 @@ pub mod Replies
 pub mod WhichCases
 pub mod WhichFromSound
 pub mod Standing
+pub mod BreaksLimit
 pub mod Steps
 pub mod ChangeClaims
 pub mod ReplaceAgrees

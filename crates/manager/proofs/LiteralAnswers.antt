@@ -9,7 +9,8 @@ use lib.Dec.{eqb}
 use lib.ListN.{length}
 use borrow.Author.Tests.{ne-eqb}
 use Rattle.catalogue.proofs.Roomy.{roomy}
-use Rattle.layout.specs.Layout.{File, Layout, breaksOf, fileBlocks, findFile, found, hasFile, isFound}
+use Rattle.layout.proofs.Breaks.{breaks-at-pages}
+use Rattle.layout.specs.Layout.{File, Layout, blocksOf, fileBlocks, findFile, found, hasFile, isFound, pageBreaks}
 use Rattle.layout.specs.Lists.{done, more, sumOf}
 use Rattle.layout.specs.Removing.{copiesOf, removal}
 use Rattle.manager.proofs.Judging.{none-applies}
@@ -36,13 +37,12 @@ module _ {cat : List ℕ} {l : Layout} (h : CatalogueOf cat l) (d : List ℕ) (l
         ap (λ x. removeOutcome i x d .reply) (h .encoded)
         ∙ remove-from-sound (h .version) (roomy (h .known)) l (h .rules) d ld i f e some .reply
 
-    -- breaks the pieces less one
-    pub breaks-answers : perform (breaks i) cat d .reply ≡ answered (length (f .pieces) - 1)
-    unfolding breaksOf
+    -- breaks the pages that do not lie in the block right after that of the page before
+    pub breaks-answers : perform (breaks i) cat d .reply ≡ answered (pageBreaks (blocksOf (f .pieces)))
     breaks-answers =
         ap (breaksReply i) (h .encoded)
         ∙ (breaks-on-sound (h .version) (roomy (h .known)) l (h .rules) i
-        ∙ ap₂ (λ j x. replyUnless j (breaksFound x)) passed e)
+        ∙ (ap₂ (λ j x. replyUnless j (breaksFound x)) passed e ∙ ap answered (breaks-at-pages (f .pieces))))
       where
         passed : firstRefusal (fileChecks i l) ≡ allowed
         passed =

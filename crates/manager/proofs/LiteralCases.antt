@@ -76,8 +76,8 @@ written = blocks (32 ∷ 33 ∷ 34 ∷ 255 ∷ 16 ∷ [])
 
 -- ---- a list of calls
 
--- format, two adds, reads of parts, breaks, check, a removal that copies the last page of id 65,535, and free: the
--- whole outcome of each, on the bytes that the one before it left
+-- format, two adds, reads of parts, breaks, check, a removal that copies the last page of id 65,535, breaks again, and
+-- free: the whole outcome of each, on the bytes that the one before it left
 pub calls-computed :
     (formatOutcome (replicate 4096 255) untouched
     ∷ perform (add 1 (blocks (16 ∷ []))) (bytes 4096 fresh) untouched
@@ -88,6 +88,7 @@ pub calls-computed :
     ∷ perform check (bytes 4096 withTwo) written
     ∷ perform (remove 1) (bytes 4096 withTwo) written
     ∷ perform (read 65535 2 (replicate 512 0)) (bytes 4096 afterRemoval) (blocks (32 ∷ 33 ∷ 34 ∷ 255 ∷ 34 ∷ []))
+    ∷ perform (breaks 65535) (bytes 4096 afterRemoval) (blocks (32 ∷ 33 ∷ 34 ∷ 255 ∷ 34 ∷ []))
     ∷ perform free (bytes 4096 afterRemoval) (blocks (32 ∷ 33 ∷ 34 ∷ 255 ∷ 34 ∷ []))
     ∷ [])
     ≡ outcome (answered 5) (bytes 4096 fresh) untouched []
@@ -95,10 +96,11 @@ pub calls-computed :
     ∷ outcome (answered 3) (bytes 4096 withTwo) written []
     ∷ outcome (answered 1) (bytes 4096 withTwo) written (blocks (32 ∷ []))
     ∷ outcome (answered 2) (bytes 4096 withTwo) written (blocks (33 ∷ 34 ∷ []))
-    ∷ outcome (answered 1) (bytes 4096 withTwo) written []
+    ∷ outcome (answered 0) (bytes 4096 withTwo) written []
     ∷ outcome (answered 5) (bytes 4096 withTwo) written []
     ∷ outcome (answered 1) (bytes 4096 afterRemoval) (blocks (32 ∷ 33 ∷ 34 ∷ 255 ∷ 34 ∷ [])) []
     ∷ outcome (answered 1) (bytes 4096 afterRemoval) (blocks (32 ∷ 33 ∷ 34 ∷ 255 ∷ 34 ∷ [])) (blocks (34 ∷ []))
+    ∷ outcome (answered 1) (bytes 4096 afterRemoval) (blocks (32 ∷ 33 ∷ 34 ∷ 255 ∷ 34 ∷ [])) []
     ∷ outcome (answered 2) (bytes 4096 afterRemoval) (blocks (32 ∷ 33 ∷ 34 ∷ 255 ∷ 34 ∷ [])) []
     ∷ []
 unfolding computed

@@ -2,15 +2,18 @@
 use mathlib.Core.List.{List}
 use mathlib.Core.Path.{_∙_, _≡_, ap, refl, subst, sym}
 use Prim.Native.Nat.{_*_, _-_, _≤_, ℕ}
+use native.Mathlib.Omega.{arith}
 use lib.ListN.{drop, length, replicate, take}
 use Rattle.catalogue.specs.Encoding.{encode}
 use Rattle.catalogue.specs.Roomy.{Roomy}
+use Rattle.catalogue.specs.Version.{OneOf, versions}
 use Rattle.catalogue.specs.declared.Version.{Version}
 use Rattle.layout.specs.Carries.{carries}
 use Rattle.layout.specs.Helping.{InCopyOrder}
 use Rattle.layout.specs.Layout.{File, Layout, breaksOf, findFile, found}
 use Rattle.layout.specs.Removing.{copiesOf, removal}
 use Rattle.layout.specs.Sound.{Sound}
+use Rattle.manager.proofs.BreaksLimit.{line-breaks-limit}
 use Rattle.manager.proofs.Replies.{refused-answered}
 use Rattle.manager.proofs.Standing.{Standing, bookOn}
 use Rattle.manager.proofs.WhichCases.{zeros-behind}
@@ -43,9 +46,9 @@ pub record StepClaim (v : Version) (c : Call) (cat d : List ℕ) (b : Book) (o :
   pub standing : Standing v (o .catalogue) (o .disk) (s .book)
 
 -- the claims of specs/WholeList, from those on a call's own outcome
-pub claim-agrees : (v : Version) (c : Call) (cat d : List ℕ) (b : Book)
+pub claim-agrees : (v : Version) → OneOf v versions → (c : Call) (cat d : List ℕ) (b : Book) → Standing v cat d b
     → StepClaim v c cat d b (perform c cat d) (inBook c b) → CallAgrees c cat d b
-claim-agrees v c cat d b s = record {
+claim-agrees v known c cat d b t s = record {
   reply = s .reply;
   output = s .output;
   catalogue-kept = s .catalogue-kept;
@@ -54,6 +57,10 @@ claim-agrees v c cat d b s = record {
   copies = s .copies;
   limit = s .limit;
   breaks-answer = s .breaks-answer;
+  breaks-limit =
+      λ i k x e r q.
+      (let most = line-breaks-limit v known cat d b t i k x (subst (λ z. perform z cat d .reply ≡ answered k) e r) q in
+      omega (arith, most));
   which-order =
       λ n k o l e r w.
       subst (λ x. InCopyOrder heightCount l (take k (perform x cat d .output))) (sym e)

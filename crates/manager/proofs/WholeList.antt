@@ -23,6 +23,7 @@ use Rattle.layout.specs.Moves.{same}
 use Rattle.layout.specs.Removing.{copiesOf, removal}
 use Rattle.layout.specs.Sums.{SoundSums}
 use Rattle.manager.proofs.Agreement.{call-agrees}
+use Rattle.manager.proofs.BreaksLimit.{breaks-limit}
 use Rattle.manager.proofs.CallEquations.{formatIn-is}
 use Rattle.manager.proofs.CanReplace.{replace-answers-removal}
 use Rattle.manager.proofs.Contents.{length-paged}
@@ -59,7 +60,7 @@ module _ (v : Version) (known : OneOf v versions) where
   standing-follows [] cat d b t = standing-afterwards v known cat d b t
   standing-follows (c ∷ cs) cat d b t =
       let s = standing-call (c .call) cat d b (c .two-bytes) t in (
-        claim-agrees v (c .call) cat d b s,
+        claim-agrees v known (c .call) cat d b t s,
         standing-follows cs (perform (c .call) cat d .catalogue) (perform (c .call) cat d .disk)
             (inBook (c .call) b .book) (s .standing),
       )
@@ -161,4 +162,5 @@ whole-list = record {
       (standing-follows v (h .known) calls (encode v (freshLayout heightCount c)) d (freshBook c)
       (format-stands v c cat d h));
   limit = copies-limit;
+  breaks-limit = breaks-limit;
 }

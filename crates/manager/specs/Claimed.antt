@@ -5,11 +5,12 @@ use mathlib.Core.Logic.{_⊎_}
 use mathlib.Core.Path.{_≡_}
 use Prim.Native.Nat.{_+_, _-_, _<_, _≤_, ℕ}
 use lib.Dec.{eqb, leb}
+use lib.Count.{ones}
 use lib.ListN.{drop, getD, length, replicate}
 use Rattle.catalogue.specs.declared.Version.{Version}
 use Rattle.layout.specs.Carries.{carries}
 use Rattle.layout.specs.Helping.{timesIn}
-use Rattle.layout.specs.Layout.{File, Layout, findFile, found}
+use Rattle.layout.specs.Layout.{File, Layout, blocksOf, findFile, found, pageBreaks}
 use Rattle.layout.specs.Lists.{indicator, sumOf}
 use Rattle.layout.specs.Removing.{copiesOf, removal}
 use Rattle.manager.specs.Book.{Book, Line, freshBook, line, lineWith, pagesInLines}
@@ -43,6 +44,13 @@ CopiesClaimed i k cat b =
     → k ≡ length (copiesOf (removal 21 f l)))
     × ((x : Line) → lineWith i (b .lines) ≡ line x
     → k ≤ carries 21 (b .blocks - pagesInLines (b .lines)) (length (x .pages)))
+
+-- k is the number of breaks of the file i, counted over its pages in their blocks, and at most the ones of n less one
+abbrev pub BreaksClaimed : ℕ → ℕ → List ℕ → Book → Type 0
+BreaksClaimed i k cat b =
+    ((l : Layout) (f : File) → CatalogueOf cat l → findFile i (l .files) ≡ found f
+    → k ≡ pageBreaks (blocksOf (f .pieces)))
+    × ((x : Line) → lineWith i (b .lines) ≡ line x → k ≤ ones (length (x .pages)) - 1)
 
 -- f of the book: C less the pages in all lines
 abbrev pub freeOf : Book → ℕ

@@ -1,8 +1,9 @@
--- The claim about the whole list of calls: document 01, "The plain book"; document 02, W1 and W4. Definitions only.
+-- The claim about the whole list of calls: document 01, "The plain book"; document 02, W1, W4 and W5. Definitions only.
 -- `WholeList` is the one statement; `whole-list` of `proofs/WholeList.antt` proves it, of every version.
 use mathlib.Core.List.{List, [], _∷_, map}
 use mathlib.Core.Path.{_≡_}
 use Prim.Native.Nat.{_*_, _-_, _<_, _≤_, ℕ}
+use lib.Count.{ones}
 use lib.ListN.{drop, length, replicate, take}
 use Rattle.catalogue.specs.Encoding.{byteValues}
 use Rattle.catalogue.specs.Version.{OneOf, greatestBlocks, versions}
@@ -102,6 +103,9 @@ pub record CallAgrees (c : Call) (cat d : List ℕ) (b : Book) : Type 0 where
   pub breaks-answer : (i k : ℕ) (l : Layout) (f : File) → c ≡ breaks i → perform c cat d .reply ≡ answered k
       → CatalogueOf cat l
       → findFile i (l .files) ≡ found f → k ≡ breaksOf (f .pieces)
+  -- and these are at most the ones of n less one
+  pub breaks-limit : (i k : ℕ) (x : Line) → c ≡ breaks i → perform c cat d .reply ≡ answered k
+      → lineWith i (b .lines) ≡ line x → k ≤ ones (length (x .pages)) - 1
   -- the k ids that `which` writes stand by the copies of the removals of their files, equal counts by lower id, and
   -- zeros behind them
   pub which-order : (n k : ℕ) (o : List ℕ) (l : Layout) → c ≡ which n o → perform c cat d .reply ≡ answered k
@@ -164,3 +168,7 @@ pub record WholeList : Type 0 where
   pub limit : (c : Call) (cat d : List ℕ) (l : Layout) (i k : ℕ) (f : File) → Strikes i c → CatalogueOf cat l
       → findFile i (l .files) ≡ found f
       → perform c cat d .reply ≡ answered k → k ≤ carries heightCount (freeBlocks l) (fileBlocks f)
+  -- and so does the limit on breaks
+  pub breaks-limit : (cat d : List ℕ) (l : Layout) (i k : ℕ) (f : File) → CatalogueOf cat l
+      → findFile i (l .files) ≡ found f → perform (breaks i) cat d .reply ≡ answered k
+      → k ≤ ones (fileBlocks f) - 1

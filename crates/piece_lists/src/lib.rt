@@ -1,10 +1,11 @@
-// Lists of few pieces as values of the code, and their orders.
+// Lists of few pieces as values of the code, their orders, and the breaks of those in page order.
 //
 // A list is the first `count` items of an array, so each value stands for one list of the definitions. One of this size
 // is passed on without a call that copies it.
 use piece::Piece;
 use section::Height;
 
+mod breaks;
 mod sorting;
 
 // Few pieces: no more than a file of a sound layout has, or its free space.

@@ -32,6 +32,15 @@ impl Outcome {
         ours.len() == theirs.len() && ours.iter().zip(&theirs).all(same)
     }
 
+    /// Whether the breaks of a file are its pieces less one, as builds from before W5 count them, and all else is as in
+    /// the other.
+    fn counts_pieces(&self, id: u16, other: &Outcome) -> bool {
+        let catalogue = model::sound(&self.cat).expect("a call leaves a sound catalogue");
+        let breaks = catalogue.entry(id).map(|entry| entry.pairs.len() as u64 - 1);
+        let same_bytes = (&self.cat, &self.out, &self.changed) == (&other.cat, &other.out, &other.changed);
+        self.answer.ok() == breaks && same_bytes && self.list == other.list
+    }
+
     /// The bytes of a block after the call.
     fn block<'a>(&'a self, place: usize, before: &'a [u8]) -> &'a [u8] {
         match self.changed.binary_search_by_key(&place, |changed| changed.0) {
@@ -58,8 +67,8 @@ pub struct OtherLayout {
 }
 
 /// Makes each call once on every side, all from the same bytes, and compares answers, catalogues, outputs, lists and
-/// disks; of the removals and replacements of other builds the files that are left. Answers which builds leave another
-/// layout.
+/// disks; of the removals and replacements of other builds the files that are left, and their breaks may be the pieces
+/// less one. Answers which builds leave another layout.
 pub fn sides_agree(scene: &mut Scene, builds: &[&'static Build]) -> Vec<OtherLayout> {
     let before = scene.disk.clone();
     let mut others = Vec::new();
@@ -70,8 +79,12 @@ pub fn sides_agree(scene: &mut Scene, builds: &[&'static Build]) -> Vec<OtherLay
         }
         for &build in builds.iter().filter(|build| build.has(call)) {
             let other = outcome(scene, Side::Beside(build), call, &before);
-            let removes = [Call::Remove, Call::Replace].contains(&call);
-            same(Side::Beside(build), call, other == proved || removes && other.has_files_of(&proved, &before));
+            let as_before = match call {
+                Call::Remove | Call::Replace => other.has_files_of(&proved, &before),
+                Call::Breaks => other.counts_pieces(scene.facts.id, &proved),
+                _ => false,
+            };
+            same(Side::Beside(build), call, other == proved || as_before);
             if call == Call::Remove && other.cat != proved.cat {
                 others.push(OtherLayout { build, copied: other.answer.unwrap_or(0) });
             }
@@ -133,6 +146,26 @@ mod tests {
         assert!(!agrees(removal(1, LOW, &[(2, 3)])), "no page");
         assert!(agrees(removal(3, HIGH, &[(2, 5)])), "the page elsewhere");
         assert!(!agrees(removal(3, HIGH, &[(0, 5), (2, 3)])), "another page elsewhere");
+    }
+
+    /// The file lies at (0,2) (2,1) on a disk of 4 blocks.
+    #[test]
+    fn the_breaks_of_other_builds_may_be_the_pieces_less_one() {
+        let fields = [1, 4, 1, 9, 3, 0, 2, 2, 1, 3, 1];
+        let mut cat: Vec<u8> = fields.into_iter().flat_map(u16::to_be_bytes).collect();
+        cat.resize(twin::Version::SMALL.catalogue, 0);
+        let breaks = |number, changed: &[Changed]| Outcome {
+            answer: Ok(number),
+            cat: cat.clone(),
+            out: Vec::new(),
+            list: Vec::new(),
+            changed: changed.to_vec(),
+        };
+        assert_eq!(twin::breaks(&cat, 9), Ok(0));
+        for number in 0..4 {
+            assert_eq!(breaks(number, &[]).counts_pieces(9, &breaks(0, &[])), number == 1, "{number}");
+        }
+        assert!(!breaks(1, &[(3, [5; BLOCK])]).counts_pieces(9, &breaks(0, &[])), "a changed block");
     }
 
     #[test]

@@ -19,7 +19,7 @@ bench: times the proved event disk manager beside a plain twin and beside the se
                     cc -shared -o FILE -Wl,--whole-archive libevdisk.a -Wl,--no-whole-archive
                     A build that does not have a version of the catalogue is left out on its disks, and one that has
                     no replace or no which in that row. One that merges other free sections in a removal is timed, and
-                    it is said how many blocks it copies
+                    it is said how many blocks it copies. One that counts as breaks the pieces less one is timed too
   --profile SIDE CALL DISK N
                     only makes a call N times, for a profiler to watch:
                     SIDE is proved, twin or model

@@ -5,10 +5,11 @@ use crate::commit::{self, go_on};
 use crate::event_file::EventFile;
 use crate::json::Json;
 use crate::paths::Paths;
+use crate::places::lying;
 use crate::removal::{event, Removal};
 use crate::shift_log::Line;
 use crate::store::{self, Store};
-use crate::table::{blocks_of, copies, counted, lying};
+use crate::table::{blocks_of, copies, counted};
 use crate::{date, files, which, Failure};
 use event_disk::{Listing, Refusal, Version, BLOCK};
 use std::io::Write;
@@ -110,10 +111,16 @@ pub fn add(arguments: &Arguments, out: &mut Vec<u8>) -> Result<(), Failure> {
         answer => answer?,
     };
     let listing = event_disk::list(&disk.catalogue)?;
-    let pieces = event(&listing, id).in_page_order();
+    let added = event(&listing, id);
+    let pieces = added.in_page_order();
     commit::add(&store.paths, &store.image, &disk.blocks_of(&pieces), &disk.catalogue, &mut go_on)?;
-    let json = [("id", Json::number(id)), ("blocks", Json::number(answer)), ("pieces", Json::pieces(&pieces))];
-    say(arguments, out, &format!("added {id}: {}", lying(event(&listing, id))), Json::Object(json.into()))
+    let json = [
+        ("id", Json::number(id)),
+        ("blocks", Json::number(answer)),
+        ("breaks", Json::number(added.breaks)),
+        ("pieces", Json::pieces(&pieces)),
+    ];
+    say(arguments, out, &format!("added {id}: {}", lying(added)), Json::Object(json.into()))
 }
 
 /// `evdisk remove`.
@@ -130,7 +137,8 @@ pub fn remove(arguments: &Arguments, out: &mut Vec<u8>) -> Result<(), Failure> {
 /// `evdisk remove --dry-run`: says what the removal would do, and does nothing of it.
 fn try_removal(arguments: &Arguments, id: u16, out: &mut Vec<u8>) -> Result<(), Failure> {
     let mut disk = Store::to_look(arguments.paths())?.unread()?;
-    let removal = Removal::tried(&disk.catalogue, &mut disk.blocks, id)?;
+    let listing = event_disk::list(&disk.catalogue)?;
+    let removal = Removal::tried(&disk.catalogue, &listing, &mut disk.blocks, id)?;
     let json = removal.json().into_iter().chain([("dry_run", Json::Truth(true))]).collect();
     say(arguments, out, &format!("would remove {id}: {}", copies(&removal)), Json::Object(json))
 }

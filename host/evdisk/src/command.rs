@@ -92,7 +92,7 @@ pub static COMMANDS: [Command; 12] = [
         instead: None,
         valued: &[],
         flags: &["--json"],
-        short: "say in how many pieces an event lies, less one",
+        short: "say how often the drive seeks within an event",
         long: help::BREAKS,
         does: looking::breaks,
     },

@@ -15,7 +15,8 @@ An image that is there is only formatted with --force: its blocks keep their byt
 events on it are given up.";
 
 pub const ADD: &str = "\
-FILE is one or more records of 512 bytes. Says in which pieces the event lies, as (first block,length), in page order.
+FILE is one or more records of 512 bytes. Says in how many pieces the event lies, how many breaks it has and where it is
+read from, as list does: (first block,lengths), in page order.
 If there is no space it names the event whose removal would make room with the fewest copied blocks.";
 
 pub const REMOVE: &str = "\
@@ -37,9 +38,14 @@ Reads N pages from page P on; pages count from 0. Without --first it starts at p
 the event's end. With --output the pages go to FILE, which must not be there yet.";
 
 pub const LIST: &str = "\
-Pieces are written as (first block,length); those of an event stand in page order, free ones by first block.";
+The pieces of an event stand in page order. Those of which each starts right after the one before it are read without a
+seek and stand in one bracket: (0,4+2+1) is a read from block 0 over pieces of 4, 2 and 1 blocks. From one bracket to
+the next the drive seeks; that is a break. Free pieces are not read and have a bracket each, by first block.";
 
-pub const BREAKS: &str = "Reads the catalogue only.";
+pub const BREAKS: &str = "\
+There is a break where the drive has to seek when the pages are read in order. None is counted where a piece starts
+right after the one before it in page order. Says the contract's limit too: the ones of the event's blocks in binary,
+less one. Reads the catalogue only.";
 
 pub const FREE: &str = "Reads the catalogue only.";
 
@@ -54,8 +60,8 @@ Says the number of blocks if the catalogue is sound and the image as long as it 
 pub const MAP: &str = "\
 Draws a letter or digit for each block and a dot for a free one, W to a row (64 if not given), and a legend. Above 4096
 blocks each letter is 2, 4, 8 or more blocks, as the legend says, and + where they are not all alike. On a terminal the
-letters have colours, unless NO_COLOR is set. With --svg the drawing goes to FILE as SVG instead; FILE must not be there
-yet, or is - for standard output.";
+letters have colours, unless NO_COLOR is set. With --svg the drawing goes to FILE as SVG instead, with a rectangle for
+each read of an event, in which dashed lines part the pieces; FILE must not be there yet, or is - for standard output.";
 
 pub const LOG: &str = "\
 Shows for each removal its date, the event's id and blocks, the blocks that were copied and the contract's limit. A

@@ -1,6 +1,6 @@
 //! Answers for scripts, as JSON.
 
-use event_disk::Piece;
+use event_disk::{Piece, Read};
 use std::fmt;
 
 /// A value of JSON.
@@ -23,6 +23,11 @@ impl Json {
         let piece =
             |p: &Piece| Json::Object(vec![("first", Json::number(p.first)), ("length", Json::number(p.length))]);
         Json::List(pieces.iter().map(piece).collect())
+    }
+
+    /// The list of reads: the blocks of each.
+    pub fn reads(reads: &[Read]) -> Json {
+        Json::pieces(&reads.iter().map(Read::blocks).collect::<Vec<_>>())
     }
 }
 
@@ -81,6 +86,13 @@ mod tests {
         let text = r#"{"free":5,"pieces":[{"first":0,"length":4},{"first":6,"length":1}],"none":[]}"#;
         assert_eq!(value.to_string(), text);
         assert_eq!(Json::List([true, false].map(Json::Truth).into()).to_string(), "[true,false]");
+    }
+
+    #[test]
+    fn a_read_has_the_blocks_of_its_pieces() {
+        let read = |first, lengths: &[u32]| Read { first, lengths: lengths.to_vec() };
+        let text = r#"[{"first":8,"length":7},{"first":3,"length":2}]"#;
+        assert_eq!(Json::reads(&[read(8, &[4, 2, 1]), read(3, &[2])]).to_string(), text);
     }
 
     #[test]

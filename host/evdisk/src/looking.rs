@@ -3,11 +3,12 @@
 use crate::arguments::Arguments;
 use crate::changing::{blocks_json, say};
 use crate::json::Json;
+use crate::removal::event;
 use crate::shift_log::Line;
 use crate::store::Store;
 use crate::table::{self, blocks_of, counted};
 use crate::{files, map, shift_log, svg, Failure};
-use event_disk::BLOCK;
+use event_disk::{most_breaks, BLOCK};
 use std::io::IsTerminal;
 use std::path::Path;
 
@@ -54,9 +55,12 @@ pub fn list(arguments: &Arguments, out: &mut Vec<u8>) -> Result<(), Failure> {
 /// `evdisk breaks`.
 pub fn breaks(arguments: &Arguments, out: &mut Vec<u8>) -> Result<(), Failure> {
     let id = arguments.id()?;
-    let breaks = event_disk::breaks(&Store::to_look(arguments.paths())?.catalogue()?, id)?;
-    let json = Json::Object(vec![("id", Json::number(id)), ("breaks", Json::number(breaks))]);
-    say(arguments, out, &format!("{id}: {}", counted(breaks, "break")), json)
+    let catalogue = Store::to_look(arguments.paths())?.catalogue()?;
+    let breaks = event_disk::breaks(&catalogue, id)?;
+    let limit = most_breaks(event(&event_disk::list(&catalogue)?, id).blocks);
+    let json = [("id", Json::number(id)), ("breaks", Json::number(breaks)), ("limit", Json::number(limit))];
+    let words = format!("{id}: {} (contract limit {limit})", counted(breaks, "break"));
+    say(arguments, out, &words, Json::Object(json.into()))
 }
 
 /// `evdisk free`.

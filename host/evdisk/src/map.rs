@@ -1,8 +1,9 @@
 //! A disk drawn with letters: one for each block, or for as many blocks as it takes that the map of a large disk can be
 //! read.
 
-use crate::table::{counted, places, width};
-use event_disk::{Listing, Piece, Version};
+use crate::places::{free_places, places};
+use crate::table::{counted, width};
+use event_disk::{Listing, Version};
 
 /// The letters of files: as many as a disk has files at most.
 const LETTERS: &[u8; 64] = b"0123456789ABCDEFGHIJKLMNOPQRSTUVWXYZabcdefghijklmnopqrstuvwxyz@#";
@@ -68,27 +69,27 @@ pub fn drawn(listing: &Listing, to_row: usize, colours: bool) -> String {
     let wide = counted(u64::from(listing.blocks), "block").len().max(11);
     for (file, letter) in listing.files.iter().zip(letters(listing)) {
         let (letter, name) = (painted(LETTERS[letter], colours), format!("id {}", file.id));
-        text += &legend(&letter, &name, file.blocks, wide, &file.in_page_order());
+        text += &legend(&letter, &name, file.blocks, wide, &places(file));
     }
-    text + &legend(&painted(FREE, colours), "free", listing.free, wide, &listing.free_pieces)
+    text + &legend(&painted(FREE, colours), "free", listing.free, wide, &free_places(&listing.free_pieces))
 }
 
 /// A line of the legend, with the number of blocks in a column that is so wide.
-fn legend(letter: &str, name: &str, blocks: u32, wide: usize, pieces: &[Piece]) -> String {
-    let line = format!("    {letter}  {name:<8}  {:>wide$}  {}", counted(u64::from(blocks), "block"), places(pieces));
+fn legend(letter: &str, name: &str, blocks: u32, wide: usize, places: &str) -> String {
+    let line = format!("    {letter}  {name:<8}  {:>wide$}  {places}", counted(u64::from(blocks), "block"));
     format!("{}\n", line.trim_end())
 }
 
 #[cfg(test)]
 mod tests {
     use super::*;
-    use event_disk::File;
+    use event_disk::{File, Piece};
 
     fn case_7() -> Listing {
         let piece = |first, length| Piece { first, length };
         let files = vec![
-            File { id: 2, blocks: 2, pieces: vec![piece(4, 2)] },
-            File { id: 9, blocks: 1, pieces: vec![piece(7, 1)] },
+            File { id: 2, blocks: 2, breaks: 0, pieces: vec![piece(4, 2)] },
+            File { id: 9, blocks: 1, breaks: 0, pieces: vec![piece(7, 1)] },
         ];
         let free_pieces = vec![piece(0, 4), piece(6, 1), piece(8, 8)];
         Listing { version: Version::SMALL, blocks: 16, free: 13, files, free_pieces }
@@ -128,7 +129,7 @@ mod tests {
 
     #[test]
     fn each_file_has_a_letter_of_its_own() {
-        let file = |id| File { id, blocks: 1, pieces: vec![] };
+        let file = |id| File { id, blocks: 1, breaks: 0, pieces: vec![] };
         for ids in [(1..=64).collect::<Vec<u16>>(), (1..=64).map(|i| i * 64).collect(), (65472..=65535).collect()] {
             let files = ids.iter().map(|id| file(*id)).collect();
             let mut letters = letters(&of_files(files));
@@ -140,7 +141,7 @@ mod tests {
 
     #[test]
     fn an_id_has_the_letter_of_its_number_or_the_next() {
-        let file = |id| File { id, blocks: 1, pieces: vec![] };
+        let file = |id| File { id, blocks: 1, breaks: 0, pieces: vec![] };
         let files = vec![file(5), file(63), file(69), file(127)];
         assert_eq!(letters(&of_files(files)), [5, 63, 6, 0]);
     }
@@ -159,9 +160,9 @@ mod tests {
     fn a_letter_for_many_blocks_says_whether_they_are_all_alike() {
         let piece = |first, length| Piece { first, length };
         let files = vec![
-            File { id: 1, blocks: 3, pieces: vec![piece(2, 1), piece(8, 2)] },
-            File { id: 2, blocks: 2, pieces: vec![piece(4, 2)] },
-            File { id: 3, blocks: 1, pieces: vec![piece(8192, 1)] },
+            File { id: 1, blocks: 3, breaks: 1, pieces: vec![piece(2, 1), piece(8, 2)] },
+            File { id: 2, blocks: 2, breaks: 0, pieces: vec![piece(4, 2)] },
+            File { id: 3, blocks: 1, breaks: 0, pieces: vec![piece(8192, 1)] },
         ];
         let listing = Listing { files, ..empty(8193) };
         let text = drawn(&listing, 1024, false);

@@ -23,11 +23,12 @@ impl Removal {
         Removal { id, blocks, copied, limit: carries(u64::from(before.free), blocks) }
     }
 
-    /// What the removal of an event would be. It is made on a copy of the catalogue, and on as many zeros as the disk
-    /// has bytes: how many blocks are copied does not go by what they hold, and zeros stay zeros.
-    pub fn tried(catalogue: &[u8], zeros: &mut [u8], id: u16) -> Result<Removal, Refusal> {
+    /// What the removal of an event would be, by the catalogue and what it lists. It is made on a copy of the
+    /// catalogue, and on as many zeros as the disk has bytes: how many blocks are copied does not go by what they
+    /// hold, and zeros stay zeros.
+    pub fn tried(catalogue: &[u8], listing: &Listing, zeros: &mut [u8], id: u16) -> Result<Removal, Refusal> {
         let copied = event_disk::remove(&mut catalogue.to_vec(), zeros, id)?;
-        Ok(Removal::of(&event_disk::list(catalogue)?, id, copied))
+        Ok(Removal::of(listing, id, copied))
     }
 
     /// The numbers for scripts.
@@ -60,10 +61,12 @@ mod tests {
                 event_disk::add(&mut catalogue, &mut disk, id, &vec![7; pages * BLOCK]).expect("there is space");
             }
             let (before, mut zeros) = (catalogue.clone(), vec![0; disk.len()]);
-            let tried = Removal::tried(&catalogue, &mut zeros, 5).expect("it is there");
+            let listing = event_disk::list(&catalogue).expect("a sound catalogue");
+            let mut try_it = |id| Removal::tried(&catalogue, &listing, &mut zeros, id);
+            let tried = try_it(5).expect("it is there");
             assert_eq!(tried, Removal { id: 5, blocks: 3, copied: 1, limit: 2 });
-            assert_eq!(Removal::tried(&catalogue, &mut zeros, 5), Ok(tried), "once more, on the same zeros");
-            assert_eq!(Removal::tried(&catalogue, &mut zeros, 7), Err(Refusal::IdMissing));
+            assert_eq!(try_it(5), Ok(tried), "once more, on the same zeros");
+            assert_eq!(try_it(7), Err(Refusal::IdMissing));
             assert!(catalogue == before && zeros == vec![0; disk.len()]);
             assert_eq!(event_disk::remove(&mut catalogue, &mut disk, 5), Ok(tried.copied));
         }

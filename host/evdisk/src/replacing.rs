@@ -4,9 +4,10 @@ use crate::arguments::Arguments;
 use crate::changing::{say, shift};
 use crate::event_file::EventFile;
 use crate::json::Json;
+use crate::places::lying;
 use crate::removal::event;
 use crate::store::Store;
-use crate::table::{copies, lying};
+use crate::table::copies;
 use crate::Failure;
 
 /// `evdisk replace`.
@@ -24,6 +25,7 @@ pub fn replace(arguments: &Arguments, out: &mut Vec<u8>) -> Result<(), Failure> 
         ("replaced", Json::number(removal.blocks)),
         ("copied", Json::number(removal.copied)),
         ("limit", Json::number(removal.limit)),
+        ("breaks", Json::number(new.breaks)),
         ("pieces", Json::pieces(&new.in_page_order())),
     ];
     say(arguments, out, &words, Json::Object(json.into()))

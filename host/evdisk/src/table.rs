@@ -1,9 +1,10 @@
 //! A catalogue, removals and a shift log as tables to read.
 
 use crate::json::Json;
+use crate::places::{free_places, places};
 use crate::removal::Removal;
 use crate::shift_log::Line;
-use event_disk::{File, Listing, Piece, Version};
+use event_disk::{File, Listing, Version};
 
 /// A number with the word for what is counted, as in "1 block" and "2 blocks".
 pub fn counted(number: u64, word: &str) -> String {
@@ -21,39 +22,20 @@ pub fn width(greatest: u64, least: usize) -> usize {
     greatest.to_string().len().max(least)
 }
 
-/// Pieces as the documents write them: (first block,length).
-pub fn places(pieces: &[Piece]) -> String {
-    let places: Vec<String> = pieces.iter().map(|piece| format!("({},{})", piece.first, piece.length)).collect();
-    places.join(" ")
-}
-
-/// Where an event lies: its blocks, and its pieces in page order.
-pub fn lying(event: &File) -> String {
-    let pieces = event.in_page_order();
-    let blocks = counted(u64::from(event.blocks), "block");
-    format!("{blocks} in {}: {}", counted(pieces.len() as u64, "piece"), places(&pieces))
-}
-
 /// What a removal, or that of a replacement, copies, and what the contract lets it copy.
 pub fn copies(removal: &Removal) -> String {
     format!("{} copied (contract limit {})", counted(removal.copied, "block"), removal.limit)
 }
 
-/// The breaks of a file: its pieces less one.
-fn breaks(file: &File) -> u64 {
-    file.pieces.len() as u64 - 1
-}
-
 /// The files and the free blocks of a catalogue, a line for each file.
 pub fn listing(listing: &Listing) -> String {
     let wide = width(u64::from(listing.blocks), 6);
-    let mut text = format!("   id  {:>wide$}  pieces  breaks  places (first block,length)\n", "blocks");
+    let mut text = format!("   id  {:>wide$}  pieces  breaks  places (first block,lengths)\n", "blocks");
     for file in &listing.files {
-        let places = places(&file.in_page_order());
-        let numbers = format!("{:>wide$}  {:>6}  {:>6}", file.blocks, file.pieces.len(), breaks(file));
-        text += &format!("{:>5}  {numbers}  {places}\n", file.id);
+        let numbers = format!("{:>wide$}  {:>6}  {:>6}", file.blocks, file.pieces.len(), file.breaks);
+        text += &format!("{:>5}  {numbers}  {}\n", file.id, places(file));
     }
-    let places = places(&listing.free_pieces);
+    let places = free_places(&listing.free_pieces);
     let free = format!(" free  {:>wide$}  {:>6}          {places}", listing.free, listing.free_pieces.len());
     let files = counted(listing.files.len() as u64, "file");
     text + &format!("{}\n{}, {files}\n", free.trim_end(), blocks_of(listing))
@@ -65,8 +47,9 @@ pub fn listing_json(listing: &Listing) -> Json {
         Json::Object(vec![
             ("id", Json::number(file.id)),
             ("blocks", Json::number(file.blocks)),
-            ("breaks", Json::number(breaks(file))),
+            ("breaks", Json::number(file.breaks)),
             ("pieces", Json::pieces(&file.in_page_order())),
+            ("reads", Json::reads(&file.reads())),
         ])
     };
     Json::Object(vec![
@@ -104,21 +87,22 @@ pub fn shift_log(lines: &[Line]) -> String {
 #[cfg(test)]
 mod tests {
     use super::*;
+    use event_disk::Piece;
 
     fn case_11() -> Listing {
         let piece = |first, length| Piece { first, length };
         let files = vec![
-            File { id: 2, blocks: 7, pieces: vec![piece(0, 4), piece(13, 1), piece(14, 2)] },
-            File { id: 3, blocks: 5, pieces: vec![piece(8, 4), piece(12, 1)] },
+            File { id: 2, blocks: 7, breaks: 2, pieces: vec![piece(0, 4), piece(13, 1), piece(14, 2)] },
+            File { id: 3, blocks: 5, breaks: 0, pieces: vec![piece(8, 4), piece(12, 1)] },
         ];
         Listing { version: Version::SMALL, blocks: 16, free: 4, files, free_pieces: vec![piece(4, 4)] }
     }
 
     #[test]
     fn a_catalogue_is_listed_with_pieces_in_page_order() {
-        let text = "   id  blocks  pieces  breaks  places (first block,length)
+        let text = "   id  blocks  pieces  breaks  places (first block,lengths)
     2       7       3       2  (0,4) (14,2) (13,1)
-    3       5       2       1  (8,4) (12,1)
+    3       5       2       0  (8,4+1)
  free       4       1          (4,4)
 16 blocks, 2 files
 ";
@@ -134,12 +118,13 @@ mod tests {
     #[test]
     fn the_columns_of_a_large_disk_have_room_for_its_numbers() {
         let piece = |first, length| Piece { first, length };
-        let files = vec![File { id: 65535, blocks: 524_289, pieces: vec![piece(0, 1), piece(524_288, 524_288)] }];
+        let pieces = vec![piece(0, 1), piece(524_288, 524_288)];
+        let files = vec![File { id: 65535, blocks: 524_289, breaks: 1, pieces }];
         let free_pieces = (0..19).map(|height| piece(1 << height, 1 << height)).collect();
         let large = Listing { version: Version::LARGE, blocks: 1 << 20, free: 524_287, files, free_pieces };
         let text = listing(&large);
         let lines: Vec<&str> = text.lines().collect();
-        assert_eq!(lines[0], "   id   blocks  pieces  breaks  places (first block,length)");
+        assert_eq!(lines[0], "   id   blocks  pieces  breaks  places (first block,lengths)");
         assert_eq!(lines[1], "65535   524289       2       1  (524288,524288) (0,1)");
         assert!(lines[2].starts_with(" free   524287      19          (1,1) (2,2) (4,4) "), "{}", lines[2]);
         assert_eq!(lines[3], "1048576 blocks, large catalogue, 1 file");

@@ -32,8 +32,9 @@ pub fn which(arguments: &Arguments, out: &mut Vec<u8>) -> Result<(), Failure> {
     let ids = ids(&catalogue, blocks)?;
     let listing = event_disk::list(&catalogue)?;
     let mut zeros = vec![0; listing.blocks as usize * BLOCK];
-    let mut tried = |ids: Vec<u16>| ids.into_iter().map(|id| Removal::tried(&catalogue, &mut zeros, id)).collect();
-    let room = Room { blocks, free: listing.free, removals: ids.map(&mut tried).transpose()? };
+    let mut tried = |id| Removal::tried(&catalogue, &listing, &mut zeros, id);
+    let removals = ids.map(|ids| ids.into_iter().map(&mut tried).collect()).transpose()?;
+    let room = Room { blocks, free: listing.free, removals };
     say(arguments, out, &room.words(), room.json())
 }
 
@@ -85,7 +86,8 @@ impl Room {
 pub fn no_space(disk: &mut Disk, blocks: u64) -> Failure {
     let refused = Failure::from(Refusal::NoSpace);
     let Ok(Some(ids)) = ids(&disk.catalogue, blocks) else { return refused };
-    match ids.first().map(|id| Removal::tried(&disk.catalogue, &mut disk.blocks, *id)) {
+    let Ok(listing) = event_disk::list(&disk.catalogue) else { return refused };
+    match ids.first().map(|id| Removal::tried(&disk.catalogue, &listing, &mut disk.blocks, *id)) {
         None => refused.and("no single removal would make room"),
         Some(Ok(Removal { id, copied, .. })) => {
             refused.and(&format!("removing {id} would make room ({} copied)", counted(copied, "block")))

@@ -19,6 +19,8 @@
 //! assert_eq!(event_disk::read(&cat, &disk, 5, 2, &mut out)?, 1);
 //! assert_eq!(out, [7; event_disk::BLOCK]);
 //! assert_eq!(event_disk::read(&cat, &disk, 5, 3, &mut out), Err(event_disk::Refusal::PastEnd));
+//! // 3 blocks lie in two pieces; on this disk they adjoin, so that the drive does not seek between them
+//! assert_eq!((event_disk::breaks(&cat, 5)?, event_disk::most_breaks(3)), (0, 1));
 //! // byte 6 is the quality letter: M ranks above any other, and not above M
 //! let reviewed = [b'M'; event_disk::BLOCK];
 //! assert_eq!(event_disk::replace(&mut cat, &mut disk, 5, &reviewed)?, 0);
@@ -45,10 +47,12 @@ mod archive;
 #[cfg(not(feature = "unproved"))]
 mod exports;
 mod listing;
+mod reads;
 mod refusal;
 mod version;
 
 pub use listing::{carries, list, File, Listing, Piece};
+pub use reads::{most_breaks, Read};
 pub use refusal::Refusal;
 pub use version::Version;
 
@@ -109,7 +113,8 @@ pub fn read(cat: &[u8], disk: &[u8], id: u16, first: u64, out: &mut [u8]) -> Res
     answer(archive::read(cat, disk, id, first, out))
 }
 
-/// In how many pieces a file lies, less one.
+/// How often the drive seeks when the pages of a file are read in order: at how many places in page order a piece does
+/// not start right after the one before it. At most [`most_breaks`] of the file's blocks.
 pub fn breaks(cat: &[u8], id: u16) -> Result<u64, Refusal> {
     answer(archive::breaks(cat, id))
 }

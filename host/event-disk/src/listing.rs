@@ -1,6 +1,6 @@
 //! What a sound catalogue lists: its files, their pieces and the free pieces.
 
-use crate::{free, Refusal, Version};
+use crate::{breaks, free, Refusal, Version};
 use std::ops::Range;
 
 /// Blocks that follow each other: the first, and how many.
@@ -17,11 +17,13 @@ impl Piece {
     }
 }
 
-/// A file: its id, its blocks, and its pieces by rising first block.
+/// A file: its id, its blocks, its breaks, and its pieces by rising first block.
 #[derive(Clone, Debug, PartialEq, Eq)]
 pub struct File {
     pub id: u16,
     pub blocks: u32,
+    /// What the proved call [`breaks`] answers.
+    pub breaks: u32,
     pub pieces: Vec<Piece>,
 }
 
@@ -73,9 +75,10 @@ impl Fields<'_> {
         (0..blocks.count_ones()).map(|_| Piece { first: self.blocks(), length: self.blocks() }).collect()
     }
 
-    fn file(&mut self) -> File {
+    /// A file of the catalogue, which is given whole for its breaks.
+    fn file(&mut self, cat: &[u8]) -> Result<File, Refusal> {
         let (id, blocks) = (self.short(), self.blocks());
-        File { id, blocks, pieces: self.pieces(blocks) }
+        Ok(File { id, blocks, breaks: breaks(cat, id)? as u32, pieces: self.pieces(blocks) })
     }
 }
 
@@ -86,7 +89,7 @@ pub fn list(cat: &[u8]) -> Result<Listing, Refusal> {
     let version = Version::of_catalogue(cat).expect("the version of a sound catalogue suits its length");
     let mut fields = Fields { rest: cat, version };
     let (_number, blocks, count) = (fields.short(), fields.blocks(), fields.short());
-    let files: Vec<File> = (0..count).map(|_| fields.file()).collect();
+    let files = (0..count).map(|_| fields.file(cat)).collect::<Result<Vec<File>, Refusal>>()?;
     let free = blocks - files.iter().map(|file| file.blocks).sum::<u32>();
     Ok(Listing { version, blocks, free, files, free_pieces: fields.pieces(free) })
 }

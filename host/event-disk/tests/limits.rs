@@ -1,6 +1,6 @@
 //! The limits of both catalogues, on both sides, and what `list` reads from each.
 
-use event_disk::{Listing, Piece, Refusal, Version, BLOCK};
+use event_disk::{Listing, Piece, Read, Refusal, Version, BLOCK};
 
 /// Formats a disk of so many bytes in a catalogue of so many, which a refusal must leave as it is.
 fn formatted(catalogue: usize, disk: usize) -> Result<Vec<u8>, Refusal> {
@@ -82,6 +82,10 @@ fn files_are_listed_with_their_pieces_in_either_version() {
         let lengths: Vec<_> = held(1).iter().map(|piece| piece.length).collect();
         assert_eq!(lengths, [256, 2, 1]);
         assert_eq!(held(1)[0], Piece { first: 0, length: 256 });
+        assert_eq!([0, 1].map(|file: usize| listing.files[file].breaks), [0, 1]);
+        let read = |first, lengths: &[u32]| Read { first, lengths: lengths.to_vec() };
+        assert_eq!(listing.files[0].reads(), [read(299, &[1])]);
+        assert_eq!(listing.files[1].reads(), [read(0, &[256]), read(296, &[2, 1])]);
         let pieces = listing.files.iter().flat_map(|file| &file.pieces).chain(&listing.free_pieces);
         assert_eq!(pieces.map(|piece| piece.length).sum::<u32>(), 300);
     }

@@ -1,7 +1,9 @@
-//! What a call stands for, made apart from it: a replacement is a removal and an add, and a list is that of removals.
+//! What a call stands for, made apart from it: a replacement is a removal and an add, breaks are the seeks of the
+//! drive, and a list is that of removals.
 
 use model::Answer;
 
+use crate::breaks::compare_breaks;
 use crate::call::{Call, Lent};
 use crate::guarded::compare_from;
 use crate::listed::compare_listed;
@@ -13,6 +15,7 @@ use crate::watch::require;
 pub enum Apart {
     Nothing,
     Replacement(TwoCalls),
+    Breaks { id: u16 },
     List { n: u64, places: usize },
 }
 
@@ -22,6 +25,7 @@ impl Apart {
         let (cat, disk) = (side.cat.lent(lent.cat), side.disk.lent(lent.disk));
         match (*call, answer) {
             (Call::Replace { id, .. }, Ok(_) | Err(11)) => Apart::Replacement(TwoCalls::make(cat, disk, id, content)),
+            (Call::Breaks { id }, Ok(_)) => Apart::Breaks { id },
             (Call::Which { n, places }, Ok(_)) => Apart::List { n, places },
             _ => Apart::Nothing,
         }
@@ -33,6 +37,7 @@ impl Apart {
         match self {
             Apart::Nothing => Ok(()),
             Apart::Replacement(calls) => calls.compare(answer, cat, disk),
+            Apart::Breaks { id } => compare_breaks(cat, *id, answer),
             Apart::List { n, places } => compare_listed(cat, *n, answer, side.list.lent(*places)),
         }
     }

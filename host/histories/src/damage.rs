@@ -152,7 +152,7 @@ pub fn one_call(
         let n = catalogue.entry(id).map_or(0, |entry| u64::from(entry.blocks));
         tally.count_removal(call, twin.merges().check(u64::from(catalogue.free_blocks()), n, copied)?);
     }
-    tally.count_list(call, answer, twin);
+    tally.count_found(call, answer, twin);
     Ok(())
 }
 

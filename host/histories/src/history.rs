@@ -53,7 +53,7 @@ impl History {
         if let (Some(_), Ok(copied)) = (call.removed(), answer) {
             tally.count_removal(call, self.twin.merges().check(f, n, copied)?);
         }
-        tally.count_list(call, answer, &self.twin);
+        tally.count_found(call, answer, &self.twin);
         match answer {
             Ok(_) if call.changes() => compare_touched(&self.book, &self.twin).map(|()| answer),
             // The bytes were found to be the second implementation's, which it only borrows to look at.

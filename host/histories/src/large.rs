@@ -96,7 +96,8 @@ fn one_list(
 }
 
 /// Calls on the greatest disk that each run has: a file of 300,000 pages, which is replaced by one of the most pieces
-/// and by one of one block, one of the most pieces, one of all blocks.
+/// and by one of one block, one of the most pieces, one of all blocks. The most pieces follow each other where the
+/// whole disk was free. Where block 0 was not, they lie at (1,1), (2,2), (4,4) and so on, and are read longest first.
 fn landmarks(numbers: &mut Numbers, counts: &mut Counts) -> Result<(), Difference> {
     let most = Version::LARGE.most_blocks;
     let mut history = History::new(Version::LARGE, most, numbers);
@@ -115,15 +116,14 @@ fn landmarks(numbers: &mut Numbers, counts: &mut Counts) -> Result<(), Differenc
         (which(most + 1), Ok(0)),
         (replace(1, most + 1, b'D'), Err(11)),
         (replace(1, most - 1, b'D'), Ok(0)),
-        (Call::Breaks { id: 1 }, Ok(19)),
+        (Call::Breaks { id: 1 }, Ok(0)),
         (replace(1, most + 1, b'R'), Err(13)),
         (replace(1, most + 1, b'?'), Err(12)),
         (replace(1, 1, b'M'), Ok(0)),
         (Call::Remove { id: 1 }, Ok(0)),
+        (add(3, 1), Ok(1)),
         (add(2, most - 1), Ok(most - 1)),
         (Call::Breaks { id: 2 }, Ok(19)),
-        (add(3, 2), Err(11)),
-        (add(3, 1), Ok(1)),
         (add(4, 1), Err(11)),
         (which(1), Ok(2)),
         (which(2), Ok(1)),
@@ -173,7 +173,8 @@ impl Counts {
     }
 
     /// There were 64 files at once, as many pieces as a file can have, no space, letters that do not replace, copies,
-    /// free blocks not copied, and free buddies that were merged though the two lowest free sections were others.
+    /// free blocks not copied, free buddies that were merged though the two lowest free sections were others, and files
+    /// with fewer breaks than they may have and with as many.
     fn saw_enough(&self) -> bool {
         let seen = [
             ("64 files", self.most_files == MOST_FILES),
@@ -184,6 +185,8 @@ impl Counts {
             ("a removal that copied, and a replacement", !self.tally.copied().contains(&0)),
             ("a buddy with free blocks that moved", self.tally.spared() > 0),
             ("free buddies that were not the two lowest", self.tally.passing() > 0),
+            ("a file with fewer breaks than its limit", self.tally.breaks.fewer() > 0),
+            ("a file with as many breaks as its limit", self.tally.breaks.most > 0),
             ("a list of 64 files", self.tally.most_listed() > 0),
         ];
         for (what, _) in seen.iter().filter(|(_, seen)| !seen) {

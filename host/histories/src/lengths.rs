@@ -78,7 +78,7 @@ fn on_disk(version: Version, blocks: usize, numbers: &mut Numbers, tally: &mut T
             tally.begin(&call);
             let answer = twin.call(&call, lent, &content).map_err(told)?;
             tally.end(&call, answer);
-            tally.count_list(&call, answer, &twin);
+            tally.count_found(&call, answer, &twin);
             if (answer == Err(1)) != Version::of_length(lent.cat).is_none() {
                 return Err(told(format!("{answer:?} by the length of the catalogue")));
             }

@@ -6,6 +6,9 @@ mod alphabet;
 mod apart;
 mod arguments;
 mod before;
+mod breaks;
+#[cfg(test)]
+mod breaks_tests;
 mod call;
 mod damage;
 mod guarded;

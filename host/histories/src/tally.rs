@@ -2,6 +2,7 @@
 
 use model::Answer;
 
+use crate::breaks::Breaks;
 use crate::call::{Call, GIVEN, NAMES};
 use crate::lists::Lists;
 use crate::merges::Copied;
@@ -28,6 +29,7 @@ pub struct Tally {
     removals: Removals,
     /// The removals of replacements.
     replacements: Removals,
+    pub breaks: Breaks,
     lists: Lists,
 }
 
@@ -54,10 +56,12 @@ impl Tally {
         }
     }
 
-    /// Counts the list of the last call, if it is an answer of which.
-    pub fn count_list(&mut self, call: &Call, answer: Answer, twin: &Twin) {
-        if let (Call::Which { places, .. }, Ok(number)) = (call, answer) {
-            self.lists.note(number, twin.list(*places));
+    /// Counts what the last call found, if it is an answer of breaks or which.
+    pub fn count_found(&mut self, call: &Call, answer: Answer, twin: &Twin) {
+        match (call, answer) {
+            (Call::Breaks { id }, Ok(number)) => self.breaks.note(number, twin.most_breaks(*id)),
+            (Call::Which { places, .. }, Ok(number)) => self.lists.note(number, twin.list(*places)),
+            _ => {}
         }
     }
 
@@ -66,6 +70,7 @@ impl Tally {
         self.calls += other.calls;
         self.removals = self.removals.with(other.removals);
         self.replacements = self.replacements.with(other.replacements);
+        self.breaks = self.breaks.with(other.breaks);
         self.lists = self.lists.with(other.lists);
         let counts = self.kinds.iter_mut().chain(&mut self.answered).chain(self.refusals.as_flattened_mut());
         let more = other.kinds.iter().chain(&other.answered).chain(other.refusals.as_flattened());
@@ -75,8 +80,8 @@ impl Tally {
     }
 
     /// What has to be seen in random lists, and how often it was: each call but format answered, each refusal, removals
-    /// and replacements that copied or reached their limit, buddies with free blocks that moved, and free buddies that
-    /// were merged though the two lowest free sections were others.
+    /// and replacements that copied or reached their limit, buddies with free blocks that moved, free buddies that were
+    /// merged though the two lowest free sections were others, and each kind of answer of breaks and which.
     pub fn events(&self) -> Vec<Event> {
         let calls = NAMES.iter().zip(self.answered).skip(1).map(|(name, times)| (format!("{name} answered"), times));
         let refusals = (1..=MOST).map(|number| (format!("refusal {number}"), self.refused(number)));
@@ -87,6 +92,8 @@ impl Tally {
             ("a replacement that reached its bound", self.replacements.at_bound),
             ("a free block in a buddy that moved", self.spared()),
             ("free buddies that were not the two lowest", self.passing()),
+            ("a file with fewer breaks than its limit", self.breaks.fewer()),
+            ("a file with as many breaks as its limit", self.breaks.most),
             ("blocks that fit already", self.lists.fits),
             ("blocks for which no file suffices", self.lists.none),
             ("a listed id before a lower one", self.lists.falling),
@@ -157,6 +164,7 @@ impl Tally {
             let refusals = GIVEN[call].iter().map(|&number| format!("{number}: {}", self.refusals[call][number]));
             println!("  of {}, in its order: {}", NAMES[call], refusals.collect::<Vec<_>>().join(", "));
         }
+        self.breaks.print();
         self.lists.print();
     }
 

@@ -82,6 +82,13 @@ impl Twin {
         self.proved.list.lent(places)
     }
 
+    /// The pieces of a file less one, by the catalogue of the proved manager.
+    pub fn most_breaks(&self, id: u16) -> u64 {
+        let catalogue = model::sound(self.catalogue());
+        let entry = catalogue.as_ref().and_then(|catalogue| catalogue.entry(id));
+        entry.map_or(0, |entry| entry.pairs.len() as u64 - 1)
+    }
+
     /// What the last call merged, if it was answered.
     pub fn merges(&self) -> &Merges {
         &self.merges

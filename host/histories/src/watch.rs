@@ -4,6 +4,7 @@ use std::collections::BTreeSet;
 
 use model::{Answer, Book, Entry, Pair, BLOCK, FITS_ALREADY};
 
+use crate::breaks::limit;
 use crate::call::Call;
 use crate::twin::{told, Difference, Twin};
 
@@ -18,7 +19,6 @@ pub fn require(holds: bool, otherwise: impl FnOnce() -> String) -> Result<(), Di
 
 /// Makes the call in the book too and compares the answer. The call had buffers of the right lengths.
 pub fn follow(book: &mut Book, call: &Call, content: &[u8], twin: &Twin, answer: Answer) -> Result<(), Difference> {
-    let pieces = |book: &Book, id| u64::from(book.pages(id).count_ones());
     let expected = match *call {
         Call::Format => {
             *book = Book::new(book.check());
@@ -29,17 +29,21 @@ pub fn follow(book: &mut Book, call: &Call, content: &[u8], twin: &Twin, answer:
         Call::Remove { id } => book.remove(id).map(|()| answer.unwrap_or(0)),
         Call::Replace { id, .. } => book.replace(id, content).map(|()| answer.unwrap_or(0)),
         Call::Read { id, first, length } => book.read(id, first, length).map(|p| (p.len() / BLOCK) as u64),
-        Call::Breaks { id } => book.breaks(id).map(|_| pieces(book, id) - 1),
+        Call::Breaks { id } => book.breaks(id).map(|()| answer.unwrap_or(0)),
         Call::Free => Ok(book.free()),
         Call::Check => Ok(book.check()),
         Call::Which { n, places } => book.which(n, places).map(|ids| ids.map_or(FITS_ALREADY, |ids| ids.len() as u64)),
     };
     require(expected == answer, || format!("the manager gave {}, the book {}", told(answer), told(expected)))?;
-    match *call {
-        Call::Read { id, first, length } if answer.is_ok() => {
+    match (*call, answer) {
+        (Call::Read { id, first, length }, Ok(_)) => {
             require(book.read(id, first, length) == Ok(twin.output(length)), || "output is not the book's".into())
         }
-        Call::Which { n, places } if answer.is_ok() => {
+        (Call::Breaks { id }, Ok(breaks)) => {
+            let limit = limit(book.pages(id))?;
+            require(breaks <= limit, || format!("{breaks} breaks, the limit for {} pages is {limit}", book.pages(id)))
+        }
+        (Call::Which { n, places }, Ok(_)) => {
             let ids = book.which(n, places).ok().flatten().unwrap_or_default();
             require(has_ids(twin.list(places), &ids), || "the listed ids are not the book's".into())
         }

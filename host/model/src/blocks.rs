@@ -76,6 +76,13 @@ impl BlockMap {
         pages
     }
 
+    /// The breaks of a file, as the paper has them: there is one at each page but the first whose block is not the one
+    /// right after that of the page before it.
+    pub fn breaks(&self, id: u16) -> usize {
+        let pages = self.pages(id);
+        (1..pages.len()).filter(|&page| pages[page] != pages[page - 1] + 1).count()
+    }
+
     /// The height of the piece around a block.
     fn height_around(&self, block: usize) -> u8 {
         match self.owners[block] {

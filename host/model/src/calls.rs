@@ -129,12 +129,11 @@ pub fn read(cat: &[u8], disk: &[u8], id: u16, first: u64, out: &mut [u8]) -> Ans
     Ok(count as u64)
 }
 
-/// Breaks: the pieces of a file less one.
+/// Breaks: how often the drive seeks between two pages when all pages of a file are read in order.
 pub fn breaks(cat: &[u8], id: u16) -> Answer {
     let catalogue = catalogue_in(cat)?;
-    let entry = catalogue.entry(id);
-    refuse_lowest(&[(5, id == 0), (6, entry.is_none())])?;
-    Ok(entry.map_or(0, |entry| entry.pairs.len() as u64 - 1))
+    refuse_lowest(&[(5, id == 0), (6, catalogue.entry(id).is_none())])?;
+    Ok(BlockMap::of(&catalogue).breaks(id) as u64)
 }
 
 /// Free: f.

@@ -127,7 +127,7 @@ pub fn breaks(cat: &[u8], id: u16) -> Answer {
     let table = open(cat)?;
     refuse_if(id == 0, 5)?;
     let entry = &table.files()[table.find(id.into()).ok_or(6)?];
-    Ok(entry.pieces.all().len() as u64 - 1)
+    Ok(entry.pieces.breaks() as u64)
 }
 
 /// Free.

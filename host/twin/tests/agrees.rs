@@ -18,8 +18,8 @@ struct Plan {
     calls: usize,
 }
 
-/// What a replacement was, or a call of which: refused with a number, or answered. Of the answers of which "none" and
-/// "fits already" stand for themselves, and all others are the same.
+/// What a replacement was, or a call of breaks or which: refused with a number, or answered. Of the answers of breaks
+/// and which "none" stands for itself, and so does "fits already"; all others are the same.
 type Seen = BTreeSet<(&'static str, Result<u64, u8>)>;
 
 /// A history on a fresh disk. The output and the list have other lengths and numbers before each call.
@@ -39,6 +39,7 @@ fn history(seed: u64, plan: Plan) -> Seen {
         let answer = agree(&call, &mut proved, &mut twin);
         answered += usize::from(answer.is_ok());
         match call {
+            Call::Breaks(..) => seen.insert(("breaks", answer.map(|n| n.min(1)))),
             Call::Replace(..) => seen.insert(("replace", answer.map(|_| 1))),
             Call::Which(..) => seen.insert(("which", answer.map(|n| if n == FITS_ALREADY { n } else { n.min(1) }))),
             _ => false,
@@ -56,9 +57,10 @@ fn on_histories_of_calls() {
         let more = [plan(261, 80, 7, 2000), plan(4095, 70, 130, 1500), plan(4096, 10, 1100, 200)];
         let plans = small.into_iter().chain(more).enumerate();
         let seen: Seen = plans.flat_map(|(seed, plan)| history(seed as u64, plan)).collect();
+        let breaks = [Ok(0), Ok(1), Err(5), Err(6)].map(|answer| ("breaks", answer));
         let replaced = [Ok(1), Err(5), Err(6), Err(8), Err(11), Err(12), Err(13)].map(|answer| ("replace", answer));
         let which = [Ok(0), Ok(1), Ok(FITS_ALREADY), Err(8), Err(14)].map(|answer| ("which", answer));
-        assert!(seen.into_iter().eq(replaced.into_iter().chain(which)), "each refusal, and each kind of answer");
+        assert!(seen.into_iter().eq(breaks.into_iter().chain(replaced).chain(which)), "refusals and kinds of answers");
     }
 }
 

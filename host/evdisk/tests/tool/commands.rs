@@ -8,9 +8,9 @@ fn the_commands_say_what_they_did() {
     scratch.write("e", &miniseed::event(5, 3));
     scratch.write("one", &miniseed::event(9, 1));
     assert_eq!(scratch.does("format d --blocks 16"), "formatted: 16 blocks\n");
-    assert_eq!(scratch.does("add d 5 e"), "added 5: 3 blocks in 2 pieces: (0,2) (2,1)\n");
-    assert_eq!(scratch.does("add d 9 one"), "added 9: 1 block in 1 piece: (3,1)\n");
-    assert_eq!(scratch.does("breaks d 5"), "5: 1 break\n");
+    assert_eq!(scratch.does("add d 5 e"), "added 5: 3 blocks in 2 pieces, 0 breaks: (0,2+1)\n");
+    assert_eq!(scratch.does("add d 9 one"), "added 9: 1 block in 1 piece, 0 breaks: (3,1)\n");
+    assert_eq!(scratch.does("breaks d 5"), "5: 0 breaks (contract limit 1)\n");
     assert_eq!(scratch.does("free d"), "12 blocks free\n");
     assert_eq!(scratch.does("check d"), "sound: 16 blocks\n");
     assert_eq!(scratch.does("remove d 9"), "removed 9: 0 blocks copied (contract limit 0)\n");
@@ -20,7 +20,7 @@ fn the_commands_say_what_they_did() {
 fn case_7_is_listed_and_drawn() {
     let scratch = Scratch::case_6();
     assert_eq!(scratch.does("remove d 5"), "removed 5: 1 block copied (contract limit 2)\n");
-    let list = "   id  blocks  pieces  breaks  places (first block,length)
+    let list = "   id  blocks  pieces  breaks  places (first block,lengths)
     2       2       1       0  (4,2)
     9       1       1       0  (7,1)
  free      13       3          (0,4) (6,1) (8,8)
@@ -39,7 +39,7 @@ fn free_buddies_are_joined_first() {
         let image = scratch.read("d");
         assert_eq!(scratch.does("remove d 1"), "removed 1: 0 blocks copied (contract limit 0)\n");
         assert_eq!(scratch.does("remove d 3"), "removed 3: 0 blocks copied (contract limit 3)\n");
-        let list = "   id  blocks  pieces  breaks  places (first block,length)
+        let list = "   id  blocks  pieces  breaks  places (first block,lengths)
     2       2       1       0  (2,2)
  free       6       2          (0,2) (4,4)
 8 blocks, ";
@@ -120,9 +120,10 @@ fn a_drawing_is_written_to_a_file_or_to_standard_output() {
     assert_eq!(scratch.does("map d --svg map.svg"), "");
     let svg = String::from_utf8(scratch.read("map.svg")).expect("text");
     assert_eq!(svg, scratch.does("map d --svg -"));
-    for title in ["id 2: blocks 4 to 5", "id 5: blocks 0 to 1", "id 5: blocks 2 to 2", "free: blocks 8 to 15"] {
+    for title in ["id 2: blocks 4 to 5", "id 5: blocks 0 to 2", "free: blocks 6 to 7", "free: blocks 8 to 15"] {
         assert!(svg.contains(&format!("<title>{title}</title></rect>")), "{title}");
     }
+    assert_eq!(svg.matches("</title></rect>").count(), 5, "id 5 is one read");
 }
 
 #[test]

@@ -50,9 +50,9 @@ fn each_command_answers_in_json() {
     let scratch = Scratch::case_6();
     scratch.write("e", &miniseed::event(7, 9));
     assert_eq!(json(&scratch, "format new --blocks 5"), r#"{"blocks":5,"version":1}"#);
-    let added = r#"{"id":7,"blocks":9,"pieces":[{"first":8,"length":8},{"first":6,"length":1}]}"#;
+    let added = r#"{"id":7,"blocks":9,"breaks":1,"pieces":[{"first":8,"length":8},{"first":6,"length":1}]}"#;
     assert_eq!(json(&scratch, "add d 7 e"), added);
-    assert_eq!(json(&scratch, "breaks d 7"), r#"{"id":7,"breaks":1}"#);
+    assert_eq!(json(&scratch, "breaks d 7"), r#"{"id":7,"breaks":1,"limit":1}"#);
     assert_eq!(json(&scratch, "free d"), r#"{"free":1}"#);
     assert_eq!(json(&scratch, "check d"), r#"{"blocks":16,"version":1}"#);
     let removal = r#"{"id":2,"blocks":2,"copied":0,"limit":0"#;
@@ -77,7 +77,7 @@ fn the_removals_that_make_room_are_a_list_in_json() {
 fn a_replacement_in_json_tells_the_new_event_and_the_blocks_of_the_old_one() {
     let scratch = Scratch::case_6();
     scratch.reviewed("reviewed", 9, Quality::Q);
-    let numbers = r#"{"id":5,"blocks":9,"replaced":3,"copied":1,"limit":2,"pieces":"#;
+    let numbers = r#"{"id":5,"blocks":9,"replaced":3,"copied":1,"limit":2,"breaks":1,"pieces":"#;
     let pieces = r#"[{"first":8,"length":8},{"first":6,"length":1}]}"#;
     assert_eq!(json(&scratch, "replace d 5 reviewed"), format!("{numbers}{pieces}"));
     let log = json(&scratch, "log d");
@@ -87,13 +87,32 @@ fn a_replacement_in_json_tells_the_new_event_and_the_blocks_of_the_old_one() {
 #[test]
 fn a_list_in_json_has_all_that_the_table_has() {
     let scratch = Scratch::disk(6, &[(300, 3)]);
-    let list = r#"{"blocks":6,"free":3,"files":[{"id":300,"blocks":3,"breaks":1,"pieces":[{"first":4,"length":2},"#;
-    let rest =
-        r#"{"first":0,"length":1}]}],"free_pieces":[{"first":1,"length":1},{"first":2,"length":2}],"version":1}"#;
-    assert_eq!(json(&scratch, "list d"), format!("{list}{rest}"));
+    let pieces = r#"[{"first":4,"length":2},{"first":0,"length":1}]"#;
+    let file = format!(r#"{{"id":300,"blocks":3,"breaks":1,"pieces":{pieces},"reads":{pieces}}}"#);
+    let free = r#"[{"first":1,"length":1},{"first":2,"length":2}]"#;
+    let list = format!(r#"{{"blocks":6,"free":3,"files":[{file}],"free_pieces":{free},"version":1}}"#);
+    assert_eq!(json(&scratch, "list d"), list);
     scratch.does("remove d 300");
     let empty = r#"{"blocks":6,"free":6,"files":[],"free_pieces":[{"first":0,"length":4},{"first":4,"length":2}]"#;
     assert_eq!(json(&scratch, "list d"), format!(r#"{empty},"version":1}}"#));
+}
+
+/// Two pieces are one read, and one piece is one too.
+#[test]
+fn pieces_that_adjoin_are_one_read_in_json() {
+    let scratch = Scratch::new();
+    scratch.write("three", &miniseed::event(5, 3));
+    scratch.does("format d --blocks 16");
+    let pieces = r#"[{"first":0,"length":2},{"first":2,"length":1}]"#;
+    assert_eq!(json(&scratch, "add d 5 three"), format!(r#"{{"id":5,"blocks":3,"breaks":0,"pieces":{pieces}}}"#));
+    assert_eq!(json(&scratch, "breaks d 5"), r#"{"id":5,"breaks":0,"limit":1}"#);
+    let files = |rest: &str| format!(r#""files":[{{"id":5,"blocks":3,"breaks":0,"pieces":{pieces},"reads":{rest}"#);
+    let list = json(&scratch, "list d");
+    assert!(list.contains(&files(r#"[{"first":0,"length":3}]}],"free_pieces":[{"first":3,"length":1},"#)), "{list}");
+    scratch.reviewed("seven", 7, Quality::Q);
+    let numbers = r#"{"id":5,"blocks":7,"replaced":3,"copied":0,"limit":15,"breaks":0,"pieces":"#;
+    let pieces = r#"[{"first":0,"length":4},{"first":4,"length":2},{"first":6,"length":1}]}"#;
+    assert_eq!(json(&scratch, "replace d 5 seven"), format!("{numbers}{pieces}"));
 }
 
 #[test]

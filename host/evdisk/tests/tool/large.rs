@@ -78,7 +78,8 @@ fn events_on_the_greatest_disk_are_shifted_listed_drawn_and_read_back() {
     let scratch = greatest();
     assert_eq!(scratch.does("remove d 1"), "removed 1: 8192 blocks copied (contract limit 8192)\n");
     scratch.write("event-4", &content(4, 65_537));
-    assert_eq!(scratch.does("add d 4 event-4"), "added 4: 65537 blocks in 2 pieces: (65536,65536) (0,1)\n");
+    let added = "added 4: 65537 blocks in 2 pieces, 1 break: (65536,65536) (0,1)\n";
+    assert_eq!(scratch.does("add d 4 event-4"), added);
     let list = scratch.does("list d");
     let lines: Vec<&str> = list.lines().collect();
     assert_eq!(lines[1], "    2     8192       1       0  (24576,8192)");
@@ -127,8 +128,9 @@ fn an_event_on_the_greatest_disk_is_replaced_by_a_longer_one() {
     let mut reviewed = content(4, 65_537);
     reviewed[6] = b'R';
     scratch.write("reviewed", &reviewed);
-    let said = "replaced 1: 8192 blocks copied (contract limit 8192); 65537 blocks in 2 pieces: (65536,65536) (0,1)\n";
-    assert_eq!(scratch.does("replace d 1 reviewed"), said);
+    let copied = "replaced 1: 8192 blocks copied (contract limit 8192)";
+    let lying = "65537 blocks in 2 pieces, 1 break: (65536,65536) (0,1)";
+    assert_eq!(scratch.does("replace d 1 reviewed"), format!("{copied}; {lying}\n"));
     for (id, file) in [(1, "reviewed"), (2, "event-2"), (3, "event-3")] {
         assert!(scratch.event(id) == scratch.read(file), "event {id}");
     }

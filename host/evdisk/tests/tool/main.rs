@@ -2,6 +2,7 @@
 
 #![forbid(unsafe_code)]
 
+mod breaks;
 mod commands;
 mod crashes;
 mod cut;

@@ -15,9 +15,9 @@ fn refused(scratch: &Scratch, words: &str, refusal: Refusal) {
 fn a_reviewed_event_takes_the_place_of_the_raw_one() {
     for scratch in Scratch::cases_6() {
         scratch.reviewed("reviewed", 4, Quality::Q);
-        let said = "replaced 5: 1 block copied (contract limit 2); 4 blocks in 1 piece: (0,4)\n";
+        let said = "replaced 5: 1 block copied (contract limit 2); 4 blocks in 1 piece, 0 breaks: (0,4)\n";
         assert_eq!(scratch.does("replace d 5 reviewed"), said);
-        let list = "   id  blocks  pieces  breaks  places (first block,length)
+        let list = "   id  blocks  pieces  breaks  places (first block,lengths)
     2       2       1       0  (4,2)
     5       4       1       0  (0,4)
     9       1       1       0  (7,1)
@@ -96,7 +96,7 @@ fn the_letters_of_the_first_pages_count() {
     let scratch = Scratch::new();
     scratch.write("old", &pages(b"QRR"));
     scratch.does("format d --blocks 6");
-    assert_eq!(scratch.does("add d 5 old"), "added 5: 3 blocks in 2 pieces: (4,2) (0,1)\n");
+    assert_eq!(scratch.does("add d 5 old"), "added 5: 3 blocks in 2 pieces, 1 break: (4,2) (0,1)\n");
     scratch.write("lower", &pages(b"DMM"));
     scratch.write("equal", &pages(b"QMM"));
     scratch.write("unknown", &pages(b"XMM"));
@@ -134,7 +134,8 @@ fn the_first_refusal_that_applies_is_given() {
             refused(&scratch, "replace d 5 long", refusal);
         }
         scratch.reviewed("fits", 13, Quality::Q);
-        assert!(scratch.does("replace d 5 fits").ends_with("; 13 blocks in 3 pieces: (8,8) (0,4) (6,1)\n"));
+        let lying = "; 13 blocks in 3 pieces, 2 breaks: (8,8) (0,4) (6,1)\n";
+        assert!(scratch.does("replace d 5 fits").ends_with(lying));
         assert_eq!(scratch.does("free d"), "0 blocks free\n");
     }
 }
@@ -166,7 +167,7 @@ fn a_file_larger_than_the_disk_is_refused_by_its_first_record_and_its_length() {
 fn one_of_64_events_is_replaced() {
     let scratch = Scratch::disk(80, &(1..=64).map(|id| (id, 1)).collect::<Vec<_>>());
     scratch.reviewed("reviewed", 17, Quality::M);
-    let said = "replaced 64: 0 blocks copied (contract limit 0); 17 blocks in 2 pieces: (48,16) (47,1)\n";
+    let said = "replaced 64: 0 blocks copied (contract limit 0); 17 blocks in 2 pieces, 1 break: (48,16) (47,1)\n";
     assert_eq!(scratch.does("replace d 64 reviewed"), said);
     assert!(scratch.does("list d").ends_with("80 blocks, 64 files\n"));
     assert!((1..=63).all(|id| scratch.event(id) == scratch.read(&format!("event-{id}"))));

@@ -1,6 +1,7 @@
 //! Cases 1 to 11 of the scope document by the exported calls, in each version of the catalogue: the rows of the table
 //! that the crate `case_table` proves of the definitions, as catalogue bytes, answers and blocks.
 
+mod breaks;
 mod free_buddies;
 mod replace;
 mod station;

@@ -1,6 +1,7 @@
 //! The second implementation and the book against the scope document.
 
 mod book;
+mod breaks;
 mod cases;
 mod common;
 mod free_buddies;

@@ -114,18 +114,6 @@ fn the_order_of_the_refusals_of_the_other_calls() {
 }
 
 #[test]
-fn breaks_are_the_ones_of_n_less_one() {
-    in_each_version(|version| {
-        let mut station = Station::fresh(version, 4095);
-        for n in [1, 2, 3, 7, 255, 256, 1000] {
-            assert_eq!(station.add(n, u32::from(n)), Ok(u64::from(n)));
-            assert_eq!(breaks(&station.cat, n), Ok(u64::from(n.count_ones()) - 1));
-            assert!(station.reads_back(n, u32::from(n)));
-        }
-    });
-}
-
-#[test]
 fn a_full_disk_of_one_file() {
     in_each_version(|version| {
         let mut station = Station::fresh(version, 4096);

@@ -104,12 +104,13 @@ fn a_file_of_the_most_pieces() {
     let most = version.most_blocks as u32 - 1;
     let mut station = Station::fresh(version, 8191);
     assert_eq!(station.add(1, 8191), Ok(8191));
-    assert_eq!((breaks(&station.cat, 1), free(&station.cat)), (Ok(12), Ok(0)));
+    assert_eq!((breaks(&station.cat, 1), free(&station.cat)), (Ok(0), Ok(0)));
     assert!(station.reads_back(1, 8191));
     let mut map = model::BlockMap::fresh(version, most);
     map.add(1, most);
     assert_eq!(map.catalogue().entries[0].pairs.len(), 20);
     assert!(map.pages(1).into_iter().eq(0..most as usize));
+    assert_eq!(map.breaks(1), 0);
     assert_eq!(map.remove(1), []);
     assert_eq!(map, model::BlockMap::fresh(version, most));
 }

@@ -12,7 +12,7 @@ use Rattle.manager.specs.Outcomes.{removeOutcome}
 use Rattle.calls.specs.Changing.{removeOn}
 use Rattle.manager.proofs.OnRead.{remove-on-read, remove-refused}
 use Rattle.event_disk.proofs.Entering.{made, shut-out, storable}
-use Rattle.event_disk.proofs.RemovalLimit.{within-carries}
+use Rattle.event_disk.proofs.WithinLimits.{within-carries}
 use Rattle.manager.specs.Call.{remove}
 use Rattle.event_disk.proofs.changing.remove.Statement.{statement}
 use Rattle.event_disk.proofs.changing.remove.Tie as tie

@@ -11,7 +11,7 @@ use Rattle.manager.specs.Outcomes.{replaceOutcome}
 use Rattle.calls.specs.Changing.{replaceOn}
 use Rattle.manager.proofs.OnRead.{replace-refused}
 use Rattle.manager.specs.Call.{replace}
-use Rattle.event_disk.proofs.RemovalLimit.{within-carries}
+use Rattle.event_disk.proofs.WithinLimits.{within-carries}
 use Rattle.event_disk.proofs.ReplaceOutcome.{replace-on-entered}
 use Rattle.event_disk.proofs.Entering.{made, shut-out, storable}
 use Rattle.event_disk.proofs.changing.replace.Statement.{statement}

@@ -5,8 +5,8 @@ use borrow.Author.Needs.{needs}
 use Rattle.table.specs.Files.{entryAt}
 use Rattle.table.specs.Tables.{fileOf, layoutOf}
 use Rattle.looking.proofs.LookJudged.{breaks-found, breaks-missing, breaks-zero}
-use Rattle.looking.proofs.LookedUp.{looked-count, looked-first, looked-found, looked-missing, looked-some}
-use Rattle.looking.proofs.LookedUp.{opened-rises}
+use Rattle.looking.proofs.LookedUp.{looked-count, looked-first, looked-found, looked-missing}
+use Rattle.looking.proofs.LookedUp.{looked-served, opened-rises}
 use Rattle.looking.proofs.breaks.breaks_in.Statement.{statement}
 use Rattle.looking.proofs.breaks.breaks_in.Tie as tie
 
@@ -46,27 +46,27 @@ array-copy-out-e c =
     let x = looked-first (s .args .t) (s .pre) (s .args .id) (k .look-up .result) (k .look-up .ensures) (f .1) in
     omega (arith, x .within, s .pre .sized .files)
 
-breaks-of-requires : tie.Need-breaks-of-requires
-breaks-of-requires c κs =
-    let f = c .before .before .before .file .given in
-    let k = c .before .before .before .before .before in
+breaks-requires : tie.Need-breaks-requires
+breaks-requires c κs =
+    let f = c .before .before .before .before .file .given in
+    let k = c .before .before .before .before .before .before in
     let s = k .before .before in
     let a = s .args in
     let x = looked-first (a .t) (s .pre) (a .id) (k .look-up .result) (k .look-up .ensures) (f .1) in (
-      looked-some (a .t) (s .pre) (a .id) (f .0 .0) x,
       looked-count (a .t) (s .pre) (a .id) (f .0 .0) x,
+      looked-served (a .t) (s .pre) (a .id) (f .0 .0) x,
     )
 
 returns-3 : tie.Need-returns-3
 returns-3 c =
-    let f = c .before .before .before .before .file .given in
-    let k = c .before .before .before .before .before .before in
+    let f = c .before .before .before .before .before .file .given in
+    let k = c .before .before .before .before .before .before .before in
     let s = k .before .before in
     let a = s .args in
     let x = looked-first (a .t) (s .pre) (a .id) (k .look-up .result) (k .look-up .ensures) (f .1) in
     breaks-found (layoutOf (a .t)) (a .id) (k .before .if1 .left) (fileOf (entryAt (a .t) (f .0 .0)))
     (looked-found (a .t) (s .pre) (a .id) (f .0 .0) x)
-    (c .breaks-of .result) (c .breaks-of .ensures)
+    (c .breaks .result) (c .breaks .ensures)
 
 pub breaks-in-spec : {M : Type 1} → statement M
 breaks-in-spec =
@@ -79,5 +79,5 @@ breaks-in-spec =
     returns-2
     mul-e
     array-copy-out-e
-    breaks-of-requires
+    breaks-requires
     returns-3)

@@ -7,11 +7,9 @@ use Rattle.layout.specs.Sound.{Sound}
 
 -- with heights below k a file of n blocks can have the ones of n less one as its breaks
 pub record LimitReached (k n : ℕ) : Type 0 where
-  -- the layout
   pub layout : Layout
   -- it keeps the rules, with heights below k
   pub rules : Sound k layout
-  -- the file
   pub file : File
   -- the layout has it under the id 1
   pub there : findFile 1 (layout .files) ≡ found file

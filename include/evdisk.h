@@ -67,8 +67,9 @@ extern "C" {
  * Answers its number of blocks. Refusals: -1, -2. */
 int64_t evdisk_format(uint8_t *cat, size_t cat_length, const uint8_t *disk, size_t disk_length);
 
-/* Adds a file with the pages of content, 512 bytes each. Answers their number. Refusals: -1, -3, -4, -5, -7, -8, -10,
- * -11. */
+/* Adds a file with the pages of content, 512 bytes each. Answers their number. The file lies in one piece for each 1 of
+ * that number in binary, and no division of as many blocks into pieces whose lengths are powers of two has fewer. After
+ * every call that holds of each file, and of the free blocks too. Refusals: -1, -3, -4, -5, -7, -8, -10, -11. */
 int64_t evdisk_add(uint8_t *cat, size_t cat_length, uint8_t *disk, size_t disk_length, uint16_t id,
                    const uint8_t *content, size_t content_length);
 
@@ -93,7 +94,8 @@ int64_t evdisk_read(const uint8_t *cat, size_t cat_length, const uint8_t *disk, 
 
 /* Answers how often the drive seeks when the pages of a file are read in order: at how many places in page order a
  * piece does not start right after the one before it. That is at most the ones of the file's blocks in binary, less
- * one. Refusals: -1, -3, -5, -6. */
+ * one. A file is read in one read more than it has breaks, and so in at most as many as it has pieces, which are the
+ * fewest, as said at evdisk_add. Refusals: -1, -3, -5, -6. */
 int64_t evdisk_breaks(const uint8_t *cat, size_t cat_length, uint16_t id);
 
 /* Answers the number of free blocks. Refusals: -1, -3. */

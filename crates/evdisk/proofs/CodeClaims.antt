@@ -3,16 +3,21 @@
 use mathlib.Core.List.{List, [], _∷_}
 use mathlib.Core.Logic.{_↔_}
 use mathlib.Core.Path.{_∙_, _≡_, refl, sym}
-use Prim.Native.Nat.{_-_, _≤_, ℕ}
+use Prim.Native.Nat.{_-_, _^_, _≤_, suc, ℕ}
 use lib.Count.{ones}
 use lib.IntN.{negℤ, pos}
+use lib.ListN.{length}
 use Rattle.catalogue.specs.declared.Version.{Version}
 use Rattle.layout.specs.Carries.{carries}
 use Rattle.layout.proofs.Breaks.{breaks-at-pages}
+use Rattle.layout.proofs.Divisions.{layout-no-more}
+use Rattle.layout.specs.Divisions.{NoMorePieces}
 use Rattle.layout.specs.Layout.{File, Layout, fileBlocks, findFile, found, freeBlocks}
+use Rattle.layout.specs.Lists.{sumOf}
 use Rattle.manager.specs.Book.{Book, inBook, refuses}
 use Rattle.manager.specs.Call.{Call, breaks, outputOf, remove, replace}
 use Rattle.manager.proofs.ClaimWords.{output-but-which}
+use Rattle.manager.proofs.FewestWords.{reads-within}
 use Rattle.manager.specs.Claimed.{Asking, BreaksClaimed, CopiesClaimed}
 use Rattle.manager.specs.Outcomes.{formatOutcome, perform}
 use Rattle.manager.specs.Table.{CatalogueOf}
@@ -104,3 +109,15 @@ pub exported-breaks-limit : ExportedList → (cat d : List ℕ) (r : Returned) (
     → AsPromised (perform (breaks i) cat d) r → CatalogueOf cat l → findFile i (l .files) ≡ found f
     → r .code ≡ pos n → n ≤ ones (fileBlocks f) - 1
 exported-breaks-limit w = w .breaks-limit
+
+-- on any sound catalogue the pieces of a file are no more than powers of two that sum to its blocks, and the free pieces
+-- no more than those that sum to the free blocks
+pub exported-has-fewest : ExportedList → (cat : List ℕ) (l : Layout) → CatalogueOf cat l → NoMorePieces 2 l
+exported-has-fewest w cat l s = layout-no-more 2 l (w .fewest cat l s)
+
+-- nor are the reads of a file, which are one more than the breaks given back
+pub exported-reads : ExportedList → (cat d : List ℕ) (r : Returned) (l : Layout) (i n : ℕ) (f : File)
+    → AsPromised (perform (breaks i) cat d) r → CatalogueOf cat l → findFile i (l .files) ≡ found f
+    → r .code ≡ pos n → (hs : List ℕ) → sumOf (λ h. 2 ^ h) hs ≡ fileBlocks f → suc n ≤ length hs
+exported-reads w cat d r l i n f p s there e =
+    reads-within cat l s i n f there (w .breaks-limit cat d r l i n f p s there e)

@@ -158,4 +158,5 @@ exported-list = record {
   breaks-limit =
       λ cat d r l i n f p w e q.
       whole-list .breaks-limit cat d l i n f w e (breaks-by-code (breaks i) cat d r p i n refl q);
+  fewest = whole-list .fewest;
 }

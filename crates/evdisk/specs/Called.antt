@@ -6,9 +6,9 @@ use Prim.Native.Nat.{_-_, _<_, _≤_, ℕ}
 use lib.Dec.{eqb}
 use lib.IntN.{negℤ, pos}
 use lib.ListN.{drop, length, replicate, take}
-use Rattle.layout.specs.Helping.{InCopyOrder, timesIn}
+use Rattle.layout.specs.Helping.{InCopyOrder}
 use Rattle.layout.specs.Layout.{Layout}
-use Rattle.layout.specs.Lists.{indicator, sumOf}
+use Rattle.layout.specs.Lists.{indicator, sumOf, timesIn}
 use Rattle.catalogue.specs.declared.Version.{Version}
 use Rattle.evdisk.specs.Codes.{codeOf}
 use Rattle.evdisk.specs.ExportedList.{AsPromised, CodesFollow, ExportedCall, Promised, Returned, returned}

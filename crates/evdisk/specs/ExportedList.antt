@@ -10,6 +10,7 @@ use lib.IntN.{ℤ, negℤ, pos}
 use lib.ListN.{drop, length, replicate, take}
 use Rattle.catalogue.specs.declared.Version.{Version}
 use Rattle.layout.specs.Carries.{carries}
+use Rattle.layout.specs.Divisions.{FewestPieces}
 use Rattle.layout.specs.Helping.{InCopyOrder}
 use Rattle.layout.specs.Layout.{File, Layout, breaksOf, fileBlocks, findFile, found, freeBlocks}
 use Rattle.layout.specs.Removing.{copiesOf, removal}
@@ -139,3 +140,5 @@ pub record ExportedList : Type 0 where
   pub breaks-limit : (cat d : List ℕ) (r : Returned) (l : Layout) (i n : ℕ) (f : File)
       → AsPromised (perform (breaks i) cat d) r → CatalogueOf cat l → findFile i (l .files) ≡ found f
       → r .code ≡ pos n → n ≤ ones (fileBlocks f) - 1
+  -- on every sound catalogue no division into powers of two has fewer pieces than a file, or than are free
+  pub fewest : (cat : List ℕ) (l : Layout) → CatalogueOf cat l → FewestPieces 2 l

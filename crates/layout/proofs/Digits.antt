@@ -1,14 +1,16 @@
--- Pieces of which fewer than the base have one length: their counts are the digits of the sum, in any base. Assumes
--- nothing.
+-- Pieces of which fewer than the base have one length: their counts are the digits of the sum, in any base, and no
+-- pieces of that sum are fewer. Assumes nothing.
 use mathlib.Core.List.{List}
 use mathlib.Core.Path.{_∙_, _≡_, ap, ap₂, refl, sym}
 use Prim.Native.Nat.{_%_, _*_, _+_, _/_, _<_, _^_, _≤_, max, suc, zero, ℕ}
 use native.Mathlib.Nat.{add-mul-div-left, add-mul-mod-self-left, div-div-eq-div-mul, div-eq-of-lt, div-one}
-use native.Mathlib.Nat.{mod-eq-of-lt, mul-add, mul-le-mul-left, mul-suc, mul-zero, pow-succ', pow-zero, zero-add}
+use native.Mathlib.Nat.{le-mul-of-pos-right, mod-eq-of-lt, mul-add, mul-comm, mul-le-mul-left, mul-suc, mul-zero}
+use native.Mathlib.Nat.{pow-succ', pow-zero, zero-add}
 use native.Mathlib.Omega.{arith}
 use lib.Dec.{eqb, eqb·suc-suc, eqb·suc-zero, eqb·zero-suc}
+use lib.ListN.{length}
 use borrow.Author.Tests.{eq-eqb}
-use Rattle.layout.proofs.Lists.{each-imp}
+use Rattle.layout.proofs.Lists.{each-all, each-imp, length-sum, sum-cong, sum-ge}
 use Rattle.layout.specs.Layout.{ofHeight}
 use Rattle.layout.specs.Lists.{Each, done, indicator, more, sumOf}
 use Rattle.section.specs.declared.Section.{Section}
@@ -102,3 +104,66 @@ module _ (β : ℕ) where
   counts-are-digits pos k {l} e small h =
       sym (ap (λ z. z / β ^ h % β) (val-size (max k (suc h)) (each-imp (λ s p. omega arith) e))
       ∙ val-digit pos (λ j. sumOf (ofHeight j) l) (max k (suc h)) h small (omega arith))
+
+-- ---- the fewest
+
+-- digits below β add up to the least of all that have one value; q is what is carried in, and what the lowest place
+-- has beyond its digit is carried on, β for one
+val-fewest : (β k q : ℕ) (c d : ℕ → ℕ) → ((j : ℕ) → c j < β) → val β c k ≡ q + val β d k → val 1 c k ≤ q + val 1 d k
+unfolding val
+val-fewest β zero q c d small e = omega arith
+val-fewest β (suc k) q c d small e =
+    let pos : 0 < β = omega (arith, small 0) in
+    let high : ℕ = val β (λ h. c (suc h)) k in
+    let rest : ℕ = val β (λ h. d (suc h)) k in
+    let carry : ℕ = (q + d 0) / β in
+    let same : c 0 + β * high ≡ (q + d 0) + β * rest = omega (arith, e) in
+    let carried : high ≡ carry + rest = omega (
+      arith,
+      ap (λ z. z / β) same,
+      add-mul-div-left (c 0) high pos,
+      add-mul-div-left (q + d 0) rest pos,
+      div-eq-of-lt (small 0),
+    ) in
+    omega (
+      arith,
+      same,
+      ap (λ z. β * z) carried,
+      mul-add β carry rest,
+      le-mul-of-pos-right carry pos,
+      mul-comm carry β,
+      val-fewest β k carry (λ h. c (suc h)) (λ h. d (suc h)) (λ j. small (suc j)) carried,
+    )
+
+one-power : (h : ℕ) → 1 ^ h ≡ 1
+one-power zero = pow-zero 1
+one-power (suc h) = omega (arith, pow-succ' 1 h, one-power h)
+
+-- pieces are as many as their counts add up to
+length-counts : (k : ℕ) {l : List Section} → Each (λ (s : Section). s .height .value < k) l
+    → length l ≡ val 1 (λ h. sumOf (ofHeight h) l) k
+length-counts k {l} e =
+    length-sum l
+    ∙ (sym (sum-cong (λ (s : Section). 1 ^ s .height .value) (λ _. 1) (each-all l (λ s. one-power (s .height .value))))
+    ∙ val-size 1 k e)
+
+-- no height is above the sum of all
+pub heights-below : (k : ℕ) (l : List Section) → sumOf (λ (s : Section). s .height .value) l < k
+    → Each (λ (s : Section). s .height .value < k) l
+heights-below k l p = each-imp (λ s q. omega arith) (sum-ge (λ (s : Section). s .height .value) l)
+
+-- fewer than β of each height: no others, of as many blocks in all, are fewer
+pub counts-fewest : (β : ℕ) (l m : List Section) → ((h : ℕ) → sumOf (ofHeight h) l < β)
+    → sumOf (λ (s : Section). β ^ s .height .value) l ≡ sumOf (λ (s : Section). β ^ s .height .value) m
+    → length l ≤ length m
+counts-fewest β l m small e =
+    let k : ℕ = suc (sumOf (λ (s : Section). s .height .value) l + sumOf (λ (s : Section). s .height .value) m) in
+    let below-l = heights-below k l (omega arith) in
+    let below-m = heights-below k m (omega arith) in
+    let same = sym (val-size β k below-l) ∙ (e ∙ val-size β k below-m) in
+    omega (
+      arith,
+      length-counts k below-l,
+      length-counts k below-m,
+      val-fewest β k 0 (λ h. sumOf (ofHeight h) l) (λ h. sumOf (ofHeight h) m) small (omega (arith, same)),
+    )

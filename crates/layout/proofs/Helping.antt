@@ -9,9 +9,9 @@ use lib.Dec.{eqb}
 use lib.ListN.{length, length-map}
 use borrow.Author.Tests.{leb-false, leb-true}
 use Rattle.layout.proofs.Lists.{length-sort, sum-map, sum-sort}
-use Rattle.layout.specs.Helping.{Candidate, byCopies, candidate, candidatesOf, helpingIds, letsIn, timesIn}
+use Rattle.layout.specs.Helping.{Candidate, byCopies, candidate, candidatesOf, helpingIds, letsIn}
 use Rattle.layout.specs.Layout.{File, Layout, fileBlocks, freeBlocks}
-use Rattle.layout.specs.Lists.{Each, done, indicator, more, sortBy}
+use Rattle.layout.specs.Lists.{Each, done, indicator, more, sortBy, timesIn}
 
 -- ---- the candidates
 

@@ -3,11 +3,11 @@ use mathlib.Core.List.{[], _∷_}
 use mathlib.Core.Path.{_≡_, refl}
 use Rattle.layout.specs.Adding.{allocate, takeFirst, takePiece}
 use Rattle.layout.specs.Cases.{added, caseSix, singles}
-use Rattle.layout.specs.Helping.{candidatesOf, helpingIds, timesIn}
+use Rattle.layout.specs.Helping.{candidatesOf, helpingIds}
 use Rattle.layout.specs.HelpingRows.{Copies, Gives, caseSixRows, documentCopies, edgeCopies, edgeRows}
 use Rattle.layout.specs.HelpingRows.{eightFilesCopies, eightFilesRows, fiveFiles, fiveFilesRows, sixtyFourRows}
 use Rattle.layout.specs.Layout.{filePieces, freshLayout, inRange, piecesFrom}
-use Rattle.layout.specs.Lists.{insertBy, sortBy}
+use Rattle.layout.specs.Lists.{insertBy, sortBy, timesIn}
 use Rattle.layout.specs.Removing.{buddyPair, copiesFrom, copiesOf, copyRun, insertAll, lowestTwo}
 use Rattle.layout.specs.Removing.{merge, mergeAll, mergePair, nextMerge, release, removal, withoutFile}
 use Rattle.section.specs.Sections.{buddyFirst, isInside, movedInto, parentFirst}

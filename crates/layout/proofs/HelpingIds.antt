@@ -16,9 +16,9 @@ use Rattle.layout.proofs.Lists.{each-imp, each-map, each-sort, pairwise
 use Rattle.layout.proofs.LookingUp.{rising-found}
 use Rattle.layout.proofs.Sorted.{pairwise-and, pairwise-each, pairwise-sort, sorted-same}
 use Rattle.layout.specs.Helping.{Candidate, CopiesFirst, Helping, LetsIn, byCopies, candidate, candidatesOf}
-use Rattle.layout.specs.Helping.{copiesFor, helpingIds, letsIn, timesIn}
+use Rattle.layout.specs.Helping.{copiesFor, helpingIds, letsIn}
 use Rattle.layout.specs.Layout.{File, Layout, fileBlocks, findFile, found, freeBlocks}
-use Rattle.layout.specs.Lists.{Each, Pairwise, done, indicator, more, next, none}
+use Rattle.layout.specs.Lists.{Each, Pairwise, done, indicator, more, next, none, timesIn}
 use Rattle.layout.specs.LookingUp.{ByRisingId}
 
 module _ (k n : ℕ) (l : Layout) where

@@ -42,11 +42,14 @@ pub mod PiecesFrom
 pub mod Fresh
 pub mod Breaks
 pub mod BreaksReached
+pub mod DivisionCases
+pub mod Divisions
 pub mod Ones
 pub mod FreshPieces
 pub mod Soundness
 pub mod SoundHeights
 pub mod PerOne
+pub mod Fewest
 pub mod SoundPieces
 pub mod AllocatedPieces
 pub mod OnDisk

@@ -10,15 +10,15 @@ use lib.ListN.{length}
 use borrow.Author.Tests.{leb-false, leb-true}
 use Rattle.layout.proofs.Allocating.{falling-thin}
 use Rattle.layout.proofs.Breaks.{breaks-most}
-use Rattle.layout.proofs.Digits.{counts-are-digits}
-use Rattle.layout.proofs.Lists.{each-and, each-imp, length-sort, sort-sorted, sum-ge, sum-ge-all, sum-sort}
+use Rattle.layout.proofs.Digits.{counts-are-digits, heights-below}
+use Rattle.layout.proofs.Lists.{each-and, each-imp, length-sort, sort-sorted, sum-ge-all, sum-sort}
 use Rattle.layout.proofs.Splitting.{at-most-one-small, count-none, ofHeight-other, ofHeight-same}
 use Rattle.layout.specs.Covering.{AtMostOne, Falling, countOf}
 use Rattle.layout.specs.Layout.{OnePiecePerOne, blockCount, breaksOf, byLength, digit, ofHeight}
-use Rattle.layout.specs.Lists.{Pairwise, next, none, sortBy, sumOf}
+use Rattle.layout.specs.Lists.{Pairwise, done, next, none, sortBy, sumOf}
 use Rattle.layout.specs.Merges.{rest}
 use Rattle.section.proofs.Lengths.{length-unique}
-use Rattle.section.specs.Sections.{lengthOf}
+use Rattle.section.specs.Sections.{lengthOf, section}
 use Rattle.section.specs.declared.Section.{Section}
 
 ones-zero : ones 0 ≡ 0
@@ -37,6 +37,10 @@ falling-ones (next {a = s} {l = l} e f) =
     let cat = ones-cat (s .height .value) 1 (blockCount l) rest in
     let one : 2 ^ s .height .value + blockCount l ≡ 1 * 2 ^ s .height .value + blockCount l = omega arith in
     omega (arith, falling-ones f, cat, ones-one, ap ones one)
+
+-- a power of two has a single 1
+pub ones-power : (h : ℕ) → ones (2 ^ h) ≡ 1
+ones-power h = sym (falling-ones (next {a = section 0 h} done none) ∙ ap ones (omega arith))
 
 -- by falling height, and no height twice
 sorted-falling : {l : List Section} → Pairwise (λ (s t : Section). t .height .value ≤ s .height .value) l
@@ -108,14 +112,10 @@ at-most-one-distinct (s ∷ l) thin =
 pub distinct-ones : (n : ℕ) (l : List Section) → Pairwise (λ (s t : Section). lengthOf s ≡ lengthOf t → ⊥) l
     → blockCount l ≡ n → OnePiecePerOne n l
 distinct-ones n l p e h =
-    counts-are-digits 2 (omega arith) (suc (sumOf (λ (s : Section). s .height .value) l))
-    (each-imp (λ s q. below s q) (sum-ge (λ (s : Section). s .height .value) l))
+    let k : ℕ = suc (sumOf (λ (s : Section). s .height .value) l) in
+    counts-are-digits 2 (omega arith) k (heights-below k l (omega arith))
     (λ j. omega (arith, distinct-at-most-one p j)) h
     ∙ ap (digit h) e
-  where
-    below : (s : Section) → s .height .value ≤ sumOf (λ (t : Section). t .height .value) l
-        → s .height .value < suc (sumOf (λ (t : Section). t .height .value) l)
-    below s q = omega arith
 
 -- the breaks of a file are at most the ones of n less one
 pub breaks-ones : {l : List Section} → Falling l → breaksOf l ≤ ones (blockCount l) - 1

@@ -18,7 +18,7 @@ use Rattle.section.specs.declared.Section.{Section}
 
 -- ---- binary digits determine the number
 
-below-power : (n : ℕ) → n < 2 ^ n
+pub below-power : (n : ℕ) → n < 2 ^ n
 below-power zero = omega arith
 below-power (suc n) = omega (arith, below-power n, length-double n)
 

@@ -1,27 +1,25 @@
 -- How many pieces a sound layout has, in the words of document 01: one for each 1 of n and of f, so a file has some
--- and its breaks are at most the ones of n less one, 32 free blocks are one section of height 5, and with heights below
--- k no file and no disk has more than k - 1 pieces. Assumes nothing.
+-- and its breaks are at most the ones of n less one, no division into powers of two has fewer, 32 free blocks are one
+-- section of height 5, and with heights below k no file and no disk has more than k - 1 pieces. Assumes nothing.
 use mathlib.Core.List.{List, [], _∷_}
 use mathlib.Core.Logic.{_⊎_, inl, inr}
-use mathlib.Core.Path.{_∙_, _≡_, ap, refl, sym}
+use mathlib.Core.Path.{_∙_, _≡_, ap, refl}
 use Prim.Native.Nat.{_-_, _<_, _^_, _≤_, ℕ}
 use native.Mathlib.Omega.{arith}
 use lib.Count.{ones, ones-le}
 use lib.ListN.{length}
+use Rattle.layout.proofs.Fewest.{per-one-fewest}
 use Rattle.layout.proofs.Lists.{each-and, each-imp, pairwise-imp, sum-ge}
 use Rattle.layout.proofs.MovedPieces.{section-eta}
-use Rattle.layout.proofs.Ones.{breaks-ones, distinct-ones, falling-ones}
+use Rattle.layout.proofs.Ones.{breaks-ones, distinct-ones, ones-power}
+use Rattle.layout.specs.Divisions.{FewestPieces}
 use Rattle.layout.specs.Layout.{File, Layout, OnePiecePerOne, blockCount, breaksOf, fileBlocks, freeBlocks}
-use Rattle.layout.specs.Lists.{Each, done, next, none}
+use Rattle.layout.specs.Lists.{Each}
 use Rattle.layout.specs.Sound.{Sound}
 use Rattle.section.proofs.Lengths.{length-unique, pow-lt-inv}
 use Rattle.section.proofs.Multiples.{below-or-not}
 use Rattle.section.specs.Sections.{section}
 use Rattle.section.specs.declared.Section.{Section}
-
--- a power of two has a single 1
-ones-power : (h : ℕ) → ones (2 ^ h) ≡ 1
-ones-power h = sym (falling-ones (next {a = section 0 h} done none) ∙ ap ones (omega arith))
 
 -- a number up to 2 ^ m has at most m ones, for an m of 1 or more
 ones-most : (m n : ℕ) → 1 ≤ m → n ≤ 2 ^ m → ones n ≤ m
@@ -58,6 +56,15 @@ module _ (k : ℕ) (l : Layout) (s : Sound k l) where
 
   pub one-block-no-break : Each (λ (f : File). fileBlocks f ≡ 1 → breaksOf (f .pieces) ≡ 0) (l .files)
   one-block-no-break = each-imp (λ f p e. omega (arith, p, ap ones e, ones-power 0)) file-breaks
+
+  -- ---- the fewest
+
+  -- no division into powers of two has fewer pieces: of a file's n blocks, and of the f free ones
+  pub sound-fewest : FewestPieces 2 l
+  sound-fewest = record {
+    files = each-imp (λ f p. per-one-fewest (fileBlocks f) (f .pieces) p) file-pieces-ones;
+    free = per-one-fewest (freeBlocks l) (l .free) free-pieces-ones;
+  }
 
   -- ---- 32 free blocks
 

@@ -9,7 +9,7 @@ use Prim.Native.Nat.{_+_, _<_, _≤_, ℕ}
 use lib.Dec.{eqb, leb, ltb}
 use lib.ListN.{length}
 use Rattle.layout.specs.Layout.{File, Layout, fileBlocks, findFile, found, freeBlocks}
-use Rattle.layout.specs.Lists.{Each, Pairwise, indicator, sortBy, sumOf}
+use Rattle.layout.specs.Lists.{Each, Pairwise, sortBy, timesIn}
 use Rattle.layout.specs.Removing.{copiesOf, removal}
 
 -- ---- the list
@@ -48,10 +48,6 @@ unfoldable pub helpingIds : ℕ → ℕ → Layout → List ℕ
 helpingIds k n l = map (λ (a : Candidate). a .id) (sortBy byCopies (candidatesOf k n l (l .files)))
 
 -- ---- what such a list is
-
--- how often a number stands in a list
-abbrev pub timesIn : ℕ → List ℕ → ℕ
-timesIn i l = sumOf (λ x. indicator (eqb x i)) l
 
 -- the removal of the file i copies fewer blocks than that of the file j, or as many and i is lower
 abbrev pub CopiesFirst : ℕ → Layout → ℕ → ℕ → Type 0

@@ -7,6 +7,7 @@ pub mod Removing
 pub mod BreakLimit
 pub mod BreakRows
 pub mod Carries
+pub mod Divisions
 pub mod Sound
 pub mod Loop
 pub mod Covering

@@ -3,6 +3,7 @@
 use Prim.Native.Nat.{ℕ, _+_}
 use mathlib.Core.Bool.{Bool, true, false}
 use mathlib.Core.List.{List, [], _∷_}
+use lib.Dec.{eqb}
 
 -- the sum of a measure over a list
 abbrev pub sumOf {ℓ} : {A : Type ℓ} → (A → ℕ) → List A → ℕ
@@ -19,6 +20,10 @@ sumNext w (a ∷ b ∷ l) = w a b + sumNext w (b ∷ l)
 abbrev pub indicator : Bool → ℕ
 indicator true = 1
 indicator false = 0
+
+-- how often a number stands in a list
+abbrev pub timesIn : ℕ → List ℕ → ℕ
+timesIn i l = sumOf (λ x. indicator (eqb x i)) l
 
 -- a put before the first element that it is not above, in the order le
 unfoldable pub insertBy {ℓ} : {A : Type ℓ} → (A → A → Bool) → A → List A → List A

@@ -45,6 +45,7 @@ pub mod ClaimWords
 pub mod RoomInBook
 pub mod WhichWords
 pub mod LineFiles
+pub mod FewestWords
 pub mod FormatLimits
 pub mod LiteralBuffers
 pub mod LiteralArguments

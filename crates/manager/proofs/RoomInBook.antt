@@ -9,8 +9,7 @@ use lib.Dec.{eqb, leb}
 use lib.ListN.{length, replicate}
 use borrow.Author.Tests.{eq-eqb, le-leb, lt-leb, ne-eqb}
 use Rattle.layout.proofs.Lists.{length-sum, sum-append}
-use Rattle.layout.specs.Helping.{timesIn}
-use Rattle.layout.specs.Lists.{indicator, sumOf}
+use Rattle.layout.specs.Lists.{indicator, sumOf, timesIn}
 use Rattle.manager.specs.Book.{Book, BookStep, Line, bookFree, bookRefuses, bookWhich, filledUp, fits}
 use Rattle.manager.specs.Book.{idsWithRoom, inAnyOrder, mostLines}
 use Rattle.manager.specs.WholeList.{SameNumbers}

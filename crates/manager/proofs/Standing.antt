@@ -2,24 +2,21 @@
 -- lines. Assumes nothing.
 use mathlib.Core.List.{List, map}
 use mathlib.Core.Path.{_∙_, _≡_, ap, refl, subst, sym}
-use Prim.Native.Nat.{_*_, _-_, _<_, ℕ}
+use Prim.Native.Nat.{_*_, _-_, ℕ}
 use native.Mathlib.Omega.{arith}
 use lib.ListN.{length}
 use Rattle.catalogue.proofs.Size.{encode-bytes, encode-length}
 use Rattle.catalogue.specs.Encoding.{encode}
 use Rattle.catalogue.specs.declared.Version.{Version}
-use Rattle.layout.proofs.Lists.{each-imp, pairwise-imp}
-use Rattle.layout.proofs.Ones.{distinct-ones}
 use Rattle.layout.proofs.Ranges.{inRange-inside}
-use Rattle.layout.specs.Layout.{File, Layout, OnePiecePerOne, fileBlocks, freeBlocks}
-use Rattle.layout.specs.Lists.{Each, Pairwise}
+use Rattle.layout.proofs.SoundPieces.{file-pieces-ones, free-pieces-ones, sound-fewest}
+use Rattle.layout.specs.Divisions.{Fewest, lengthsOf}
+use Rattle.layout.specs.Layout.{Layout, OnePiecePerOne, freeBlocks}
 use Rattle.layout.specs.Sound.{Sound}
 use Rattle.manager.proofs.Lines.{lines-blocks, pages-in-lines}
 use Rattle.manager.specs.Book.{Book, bookFree}
 use Rattle.manager.specs.WholeList.{Afterwards, lineOn}
 use Rattle.section.specs.Limits.{blockSize}
-use Rattle.section.specs.Sections.{lengthOf}
-use Rattle.section.specs.declared.Section.{Section}
 use Rattle.manager.proofs.AllHeights.{all-heights}
 use Rattle.catalogue.proofs.Roomy.{roomy}
 use Rattle.catalogue.specs.Version.{OneOf, versions}
@@ -39,18 +36,13 @@ pub record Standing (v : Version) (cat d : List ℕ) (b : Book) : Type 0 where
 pub book-free : (d : List ℕ) (l : Layout) → bookFree (bookOn d l) ≡ freeBlocks l
 book-free d l = ap (λ z. l .blocks - z) (pages-in-lines d (l .files))
 
-files-ones : (fs : List File)
-    → Each (λ (f : File). Pairwise (λ (s t : Section). lengthOf t < lengthOf s) (f .pieces)) fs
-    → Each (λ (f : File). OnePiecePerOne (fileBlocks f) (f .pieces)) fs
-files-ones fs e =
-    each-imp (λ f p. distinct-ones (fileBlocks f) (f .pieces) (pairwise-imp (λ s t q z. omega (arith, q)) p) refl) e
-
 module _ (v : Version) (known : OneOf v versions) where
   standing-on : (d : List ℕ) (l : Layout) → Sound (v .heights) l → length d ≡ blockSize * l .blocks
       → Afterwards v (encode v l) d (bookOn d l)
   standing-on d l s ld =
       let room = roomy known in
       let sums = all-heights v room l s in
+      let fewest = sound-fewest (v .heights) l s in
       record {
         layout = l;
         catalogue-length = encode-length v room l s;
@@ -61,9 +53,11 @@ module _ (v : Version) (known : OneOf v versions) where
         disk-length = ld;
         lines = refl;
         file-blocks = lines-blocks d (l .files);
-        file-pieces = files-ones (l .files) (s .page-order);
+        file-pieces = file-pieces-ones (v .heights) l s;
         free-pieces =
-            distinct-ones (bookFree (bookOn d l)) (l .free) (s .free-distinct) (s .free-sum ∙ sym (book-free d l));
+            subst (λ n. OnePiecePerOne n (l .free)) (sym (book-free d l)) (free-pieces-ones (v .heights) l s);
+        file-fewest = fewest .files;
+        free-fewest = subst (λ n. Fewest 2 n (lengthsOf (l .free))) (sym (book-free d l)) (fewest .free);
         cover = λ x p. sums .covers x ∙ inRange-inside x 0 (l .blocks) (omega arith) (omega arith);
       }
 

@@ -12,9 +12,9 @@ use Rattle.catalogue.specs.Roomy.{Roomy}
 use Rattle.catalogue.specs.declared.Version.{Version}
 use Rattle.layout.proofs.Helping.{helping-count, helping-times}
 use Rattle.layout.proofs.Lists.{sum-append}
-use Rattle.layout.specs.Helping.{Candidate, candidate, candidatesOf, helpingIds, timesIn}
+use Rattle.layout.specs.Helping.{Candidate, candidate, candidatesOf, helpingIds}
 use Rattle.layout.specs.Layout.{File, Layout, fileBlocks, freeBlocks}
-use Rattle.layout.specs.Lists.{indicator}
+use Rattle.layout.specs.Lists.{indicator, timesIn}
 use Rattle.layout.specs.Sound.{Sound}
 use Rattle.manager.proofs.Lines.{pages-length}
 use Rattle.manager.proofs.OnSound.{which-on-sound}

@@ -15,6 +15,7 @@ use Rattle.catalogue.specs.Version.{OneOf, greatestBlocks, versionFor, versions
 use Rattle.catalogue.specs.declared.Version.{Version}
 use Rattle.layout.proofs.Finding.{found-find}
 use Rattle.layout.proofs.Removed.{removal-keeps}
+use Rattle.layout.proofs.SoundPieces.{sound-fewest}
 use Rattle.layout.specs.Carries.{carries}
 use Rattle.layout.specs.Layout.{File, Found, Layout, fileBlocks, findFile, found, freeBlocks, freshLayout, isFound}
 use Rattle.layout.specs.Layout.{missing}
@@ -163,4 +164,5 @@ whole-list = record {
       (format-stands v c cat d h));
   limit = copies-limit;
   breaks-limit = breaks-limit;
+  fewest = λ cat l w. sound-fewest (w .version .heights) l (w .rules);
 }

@@ -9,9 +9,8 @@ use lib.Count.{ones}
 use lib.ListN.{drop, getD, length, replicate}
 use Rattle.catalogue.specs.declared.Version.{Version}
 use Rattle.layout.specs.Carries.{carries}
-use Rattle.layout.specs.Helping.{timesIn}
 use Rattle.layout.specs.Layout.{File, Layout, blocksOf, findFile, found, pageBreaks}
-use Rattle.layout.specs.Lists.{indicator, sumOf}
+use Rattle.layout.specs.Lists.{indicator, sumOf, timesIn}
 use Rattle.layout.specs.Removing.{copiesOf, removal}
 use Rattle.manager.specs.Book.{Book, Line, freshBook, line, lineWith, pagesInLines}
 use Rattle.manager.specs.Call.{Call, ListedCall, add, remove, replace, which}

@@ -1,5 +1,6 @@
--- The claim about the whole list of calls: document 01, "The plain book"; document 02, W1, W4 and W5. Definitions only.
+-- The claim about the whole list of calls: document 01, "The plain book"; document 02, W1, W4, W5 and W6.
 -- `WholeList` is the one statement; `whole-list` of `proofs/WholeList.antt` proves it, of every version.
+-- Definitions only.
 use mathlib.Core.List.{List, [], _∷_, map}
 use mathlib.Core.Path.{_≡_}
 use Prim.Native.Nat.{_*_, _-_, _<_, _≤_, ℕ}
@@ -9,10 +10,11 @@ use Rattle.catalogue.specs.Encoding.{byteValues}
 use Rattle.catalogue.specs.Version.{OneOf, greatestBlocks, versions}
 use Rattle.catalogue.specs.declared.Version.{Version}
 use Rattle.layout.specs.Carries.{carries}
+use Rattle.layout.specs.Divisions.{Fewest, FewestPieces, lengthsOf}
 use Rattle.layout.specs.Layout.{File, Layout, OnePiecePerOne, allPieces, breaksOf, fileBlocks, findFile, found}
 use Rattle.layout.specs.Layout.{freeBlocks, holdsBlock}
-use Rattle.layout.specs.Lists.{Each, sumOf}
-use Rattle.layout.specs.Helping.{InCopyOrder, timesIn}
+use Rattle.layout.specs.Lists.{Each, sumOf, timesIn}
+use Rattle.layout.specs.Helping.{InCopyOrder}
 use Rattle.layout.specs.Removing.{copiesOf, removal}
 use Rattle.manager.specs.Book.{Book, BookReply, Line, answers, anyNumber, bookFree, fits, freshBook, inAnyOrder}
 use Rattle.manager.specs.Book.{inBook, line, lineWith, refuses}
@@ -135,6 +137,10 @@ pub record Afterwards (v : Version) (cat d : List ℕ) (b : Book) : Type 0 where
   -- the pieces of a file are the ones of n, those that are free the ones of f
   pub file-pieces : Each (λ (f : File). OnePiecePerOne (fileBlocks f) (f .pieces)) (layout .files)
   pub free-pieces : OnePiecePerOne (bookFree b) (layout .free)
+  -- no division of a file's n blocks into pieces whose lengths are powers of two has fewer pieces than the file, and
+  -- none of the f free blocks has fewer than are free
+  pub file-fewest : Each (λ (f : File). Fewest 2 (fileBlocks f) (lengthsOf (f .pieces))) (layout .files)
+  pub free-fewest : Fewest 2 (bookFree b) (lengthsOf (layout .free))
   -- every block of the disk is in exactly one piece
   pub cover : (x : ℕ) → x < b .blocks → sumOf (holdsBlock x) (allPieces layout) ≡ 1
 
@@ -172,3 +178,5 @@ pub record WholeList : Type 0 where
   pub breaks-limit : (cat d : List ℕ) (l : Layout) (i k : ℕ) (f : File) → CatalogueOf cat l
       → findFile i (l .files) ≡ found f → perform (breaks i) cat d .reply ≡ answered k
       → k ≤ ones (fileBlocks f) - 1
+  -- on every sound catalogue no division into powers of two has fewer pieces than a file, or than are free
+  pub fewest : (cat : List ℕ) (l : Layout) → CatalogueOf cat l → FewestPieces 2 l

@@ -40,12 +40,14 @@ the event's end. With --output the pages go to FILE, which must not be there yet
 pub const LIST: &str = "\
 The pieces of an event stand in page order. Those of which each starts right after the one before it are read without a
 seek and stand in one bracket: (0,4+2+1) is a read from block 0 over pieces of 4, 2 and 1 blocks. From one bracket to
-the next the drive seeks; that is a break. Free pieces are not read and have a bracket each, by first block.";
+the next the drive seeks; that is a break. Free pieces are not read and have a bracket each, by first block. Neither an
+event nor the free blocks could lie in fewer pieces whose lengths are powers of two.";
 
 pub const BREAKS: &str = "\
 There is a break where the drive has to seek when the pages are read in order. None is counted where a piece starts
 right after the one before it in page order. Says the contract's limit too: the ones of the event's blocks in binary,
-less one. Reads the catalogue only.";
+less one; no division of these blocks into powers of two has fewer pieces than they have ones. Reads the catalogue
+only.";
 
 pub const FREE: &str = "Reads the catalogue only.";
 

@@ -88,7 +88,8 @@ pub fn format(cat: &mut [u8], disk: &[u8]) -> Result<u64, Refusal> {
     answer(archive::format(cat, disk))
 }
 
-/// Adds a file with the pages of `content`, 512 bytes each, and answers their number.
+/// Adds a file with the pages of `content`, 512 bytes each, and answers their number. The file lies in one piece for
+/// each 1 of that number in binary; see [`File`].
 pub fn add(cat: &mut [u8], disk: &mut [u8], id: u16, content: &[u8]) -> Result<u64, Refusal> {
     answer(archive::add(cat, disk, id, content))
 }

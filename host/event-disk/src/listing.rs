@@ -17,7 +17,8 @@ impl Piece {
     }
 }
 
-/// A file: its id, its blocks, its breaks, and its pieces by rising first block.
+/// A file: its id, its blocks, its breaks, and its pieces by rising first block. There is one piece for each 1 of its
+/// blocks in binary, and no division of them into pieces whose lengths are powers of two has fewer.
 #[derive(Clone, Debug, PartialEq, Eq)]
 pub struct File {
     pub id: u16,
@@ -36,7 +37,8 @@ impl File {
     }
 }
 
-/// The contents of a catalogue: its version, the blocks of its disk, its files by rising id, and the free pieces.
+/// The contents of a catalogue: its version, the blocks of its disk, its files by rising id, and the free pieces, which
+/// are as few for the free blocks as those of a file are for its own.
 #[derive(Clone, Debug, PartialEq, Eq)]
 pub struct Listing {
     pub version: Version,

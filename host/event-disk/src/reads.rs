@@ -32,7 +32,8 @@ impl File {
     }
 }
 
-/// The contract's limit on the breaks of a file of so many blocks: their ones in binary, less one.
+/// The contract's limit on the breaks of a file of so many blocks: their ones in binary, less one. These ones are the
+/// least number of powers of two that sum to the blocks, and a file is read in at most so many reads.
 pub fn most_breaks(blocks: u32) -> u32 {
     blocks.count_ones().saturating_sub(1)
 }

@@ -1,7 +1,9 @@
 //! The reads of files beside their breaks, on every place that a file can have on a small disk, and along histories of
 //! calls: there is one read more than breaks, and the blocks of the reads are those of the pages in their order.
 
-use event_disk::{most_breaks, File, Version, BLOCK};
+mod history;
+
+use event_disk::{most_breaks, File, Version};
 use std::collections::BTreeSet;
 
 /// The blocks of all pages in order, from the pieces alone.
@@ -74,32 +76,12 @@ fn on_every_place_of_a_file_on_a_small_disk() {
     }
 }
 
-/// Numbers that are the same in every run.
-struct Numbers(u64);
-
-impl Numbers {
-    fn below(&mut self, end: usize) -> usize {
-        self.0 = self.0.wrapping_mul(6_364_136_223_846_793_005).wrapping_add(1_442_695_040_888_963_407);
-        (self.0 >> 33) as usize % end
-    }
-}
-
 #[test]
 fn along_histories_of_adds_and_removals() {
     for version in Version::ALL {
         let mut seen = Vec::new();
         for blocks in [1, 2, 3, 5, 16, 100, 256, 261, 4095, 4096] {
-            let numbers = &mut Numbers(blocks as u64);
-            let (mut cat, mut disk) = (vec![0; version.catalogue], vec![0; blocks * BLOCK]);
-            event_disk::format(&mut cat, &disk).expect("a disk");
-            for _ in 0..150 {
-                let id = 1 + numbers.below(20) as u16;
-                let content = vec![0; BLOCK * (1 + numbers.below(blocks.div_ceil(8)))];
-                if event_disk::add(&mut cat, &mut disk, id, &content).is_err() {
-                    let _ = event_disk::remove(&mut cat, &mut disk, id);
-                }
-                seen.extend(check(&cat));
-            }
+            history::run(version, blocks, |cat| seen.extend(check(cat)));
         }
         let several = seen.iter().filter(|(_, limit)| *limit > 1);
         let [none, all] = [0, 1].map(|full| several.clone().filter(|(breaks, limit)| *breaks == full * limit).count());

@@ -13,7 +13,8 @@ histories: runs the proved event disk manager beside a second implementation and
   histories all [any of these options]               all of the above
 
 Each is run in every version of the catalogue. Disks of more than 5,000 blocks are not compared whole after every call,
-but by the blocks that the call touched, and whole at intervals.
+but by the blocks that the call touched, and whole at intervals. After every change each file and the free blocks have
+to lie in the least number of pieces whose lengths are powers of two, which a search finds.
 
   --seed S    the number that fixes a run, 1 if not given
   --calls N   how many random calls at least, 200000 if not given; the calls on large disks are more in proportion

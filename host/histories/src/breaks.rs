@@ -3,6 +3,7 @@
 use event_disk::most_breaks;
 use model::{Answer, BlockMap};
 
+use crate::fewest::least;
 use crate::twin::{told, Difference};
 use crate::watch::require;
 
@@ -32,12 +33,22 @@ pub fn compare_breaks(cat: &[u8], id: u16, answer: Answer) -> Result<(), Differe
     require(read == pages, || "the reads have not the blocks of the pages in their order".into())
 }
 
-/// The limit on the breaks of a file of some pages: the ones of their number less one.
-pub fn limit(pages: u64) -> Result<u64, Difference> {
-    let limit = u64::from(pages.count_ones()) - 1;
-    let other = u64::from(most_breaks(pages as u32));
-    require(limit == other, || format!("two limits on the breaks of {pages} pages differ: {limit} and {other}"))?;
-    Ok(limit)
+/// The limit on the breaks of a file of some pages, found in three ways: the ones of their number less one, what the
+/// wrapper says, and the least number of pieces less one.
+fn limits(pages: u64) -> [u64; 3] {
+    [u64::from(pages.count_ones()) - 1, u64::from(most_breaks(pages as u32)), least(pages) - 1]
+}
+
+/// Whether so many breaks are within limits that do not differ.
+fn within(breaks: u64, limits: [u64; 3]) -> bool {
+    limits == [limits[0]; 3] && breaks <= limits[0]
+}
+
+/// A file of some pages has to be read in at most as many reads as is the least number of its pieces: it may have one
+/// break less than that.
+pub fn compare_limits(breaks: u64, pages: u64) -> Result<(), Difference> {
+    let limits = limits(pages);
+    require(within(breaks, limits), || format!("{breaks} breaks, where the limits for {pages} pages are {limits:?}"))
 }
 
 /// Counts of breaks that were answered, for files that may have one.
@@ -139,6 +150,18 @@ mod tests {
 
     #[test]
     fn the_limit_is_the_ones_less_one() {
-        assert_eq!([1, 3, 10, 4095, 1 << 20].map(limit), [0, 1, 1, 11, 0].map(Ok));
+        assert_eq!([1, 3, 10, 4095, 1 << 20].map(limits), [0, 1, 1, 11, 0].map(|limit| [limit; 3]));
+    }
+
+    /// An answer past any of the limits is seen, and limits that differ are, whatever is answered.
+    #[test]
+    fn each_limit_is_of_account() {
+        assert!(within(0, [0; 3]) && !within(1, [0; 3]) && within(2, [2; 3]) && !within(3, [2; 3]));
+        for limits in [[3, 2, 2], [2, 3, 2], [2, 2, 3], [1, 2, 2], [2, 1, 2], [2, 2, 1]] {
+            assert!((0..4).all(|breaks| !within(breaks, limits)), "{limits:?}");
+        }
+        assert_eq!(compare_limits(1, 3), Ok(()));
+        let told = "2 breaks, where the limits for 3 pages are [1, 1, 1]";
+        assert_eq!(compare_limits(2, 3), Err(told.to_string()));
     }
 }

@@ -11,6 +11,7 @@ mod breaks;
 mod breaks_tests;
 mod call;
 mod damage;
+mod fewest;
 mod guarded;
 mod history;
 mod large;

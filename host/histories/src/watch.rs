@@ -4,8 +4,9 @@ use std::collections::BTreeSet;
 
 use model::{Answer, Book, Entry, Pair, BLOCK, FITS_ALREADY};
 
-use crate::breaks::limit;
+use crate::breaks::compare_limits;
 use crate::call::Call;
+use crate::fewest::compare_fewest;
 use crate::twin::{told, Difference, Twin};
 
 /// What has to hold, or how it does not.
@@ -39,10 +40,7 @@ pub fn follow(book: &mut Book, call: &Call, content: &[u8], twin: &Twin, answer:
         (Call::Read { id, first, length }, Ok(_)) => {
             require(book.read(id, first, length) == Ok(twin.output(length)), || "output is not the book's".into())
         }
-        (Call::Breaks { id }, Ok(breaks)) => {
-            let limit = limit(book.pages(id))?;
-            require(breaks <= limit, || format!("{breaks} breaks, the limit for {} pages is {limit}", book.pages(id)))
-        }
+        (Call::Breaks { id }, Ok(breaks)) => compare_limits(breaks, book.pages(id)),
         (Call::Which { n, places }, Ok(_)) => {
             let ids = book.which(n, places).ok().flatten().unwrap_or_default();
             require(has_ids(twin.list(places), &ids), || "the listed ids are not the book's".into())
@@ -57,7 +55,8 @@ pub fn has_ids(list: &[u16], ids: &BTreeSet<u16>) -> bool {
     BTreeSet::from_iter(listed.iter().copied()) == *ids && rest.iter().all(|&place| place == 0)
 }
 
-/// What holds of catalogue and disk after every list of calls: ids, n, pieces and pages are the book's.
+/// What holds of catalogue and disk after every list of calls: ids, n, pieces and pages are the book's, and the pieces
+/// are as few as they can be.
 pub fn compare_state(book: &Book, twin: &Twin) -> Result<(), Difference> {
     compare_lines(book, twin, |_| true)
 }
@@ -67,8 +66,10 @@ pub fn compare_touched(book: &Book, twin: &Twin) -> Result<(), Difference> {
     compare_lines(book, twin, |entry| twin.touched(entry))
 }
 
-/// Ids, n and pieces of all lines, and the pages of some.
+/// Ids, n and pieces of all lines, and the pages of some. The number of pieces comes first, since the second
+/// implementation takes no catalogue for sound that has another.
 fn compare_lines(book: &Book, twin: &Twin, with_pages: impl Fn(&Entry) -> bool) -> Result<(), Difference> {
+    compare_fewest(twin.catalogue())?;
     let catalogue = model::sound(twin.catalogue()).ok_or("the catalogue is not sound")?;
     require(catalogue.version == twin.version, || "the version is another".into())?;
     let disk = twin.disk(catalogue.blocks as usize);

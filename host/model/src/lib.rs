@@ -3,8 +3,8 @@
 //! It keeps no list of pieces. A disk is a map from each block to its owner: free, or a page of a file. The catalogue
 //! is derived from that map. The bytes of a catalogue are read by rules that are written apart from the map.
 //!
-//! Beside it stand the plain book, which sees only the number of blocks and the arguments of the calls, and the limit
-//! on the blocks that a removal copies.
+//! Beside it stand the plain book, which sees only the number of blocks and the arguments of the calls, the limit on
+//! the blocks that a removal copies, and the least number of pieces that blocks can be divided into.
 
 #![forbid(unsafe_code)]
 
@@ -12,6 +12,7 @@ mod blocks;
 mod book;
 mod calls;
 mod carry;
+mod division;
 mod moving;
 mod reading;
 mod replacing;
@@ -25,6 +26,7 @@ pub use calls::{
     add, breaks, check, format, free, read, removal_copies, removal_merges, removal_moves, remove, Answer,
 };
 pub use carry::carries;
+pub use division::{all_divisions, divisions, least_pieces, Division};
 pub use moving::{buddies_first, two_lowest, Choice, Merge, Move};
 pub use reading::{sound, Catalogue, Entry, Pair};
 pub use replacing::replace;

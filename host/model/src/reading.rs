@@ -49,20 +49,20 @@ impl Catalogue {
 }
 
 /// Bytes of which fields, most significant byte first, are taken from the front.
-struct Fields<'a> {
-    rest: &'a [u8],
+pub(crate) struct Fields<'a> {
+    pub(crate) rest: &'a [u8],
 }
 
 impl Fields<'_> {
     /// The next field of so many bytes, 4 at most, or nothing past the end.
-    fn number(&mut self, width: usize) -> Option<u32> {
+    pub(crate) fn number(&mut self, width: usize) -> Option<u32> {
         let (field, rest) = self.rest.split_at_checked(width)?;
         self.rest = rest;
         Some(field.iter().fold(0, |number, &byte| 256 * number + u32::from(byte)))
     }
 
     /// The next field of 2 bytes.
-    fn short(&mut self) -> Option<u16> {
+    pub(crate) fn short(&mut self) -> Option<u16> {
         self.number(2).map(|number| number as u16)
     }
 

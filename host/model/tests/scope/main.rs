@@ -4,6 +4,7 @@ mod book;
 mod breaks;
 mod cases;
 mod common;
+mod division;
 mod free_buddies;
 mod held_blocks;
 mod refusals;

@@ -39,7 +39,7 @@ lengthsOf l = map lengthOf l
 pub record FewestPieces (base : ℕ) (l : Layout) : Type 0 where
   -- no division of a file's n blocks has fewer pieces than the file
   pub files : Each (λ (f : File). Fewest base (fileBlocks f) (lengthsOf (f .pieces))) (l .files)
-  -- and none of the f free blocks has fewer than are free
+  -- and no division of the f free blocks has fewer than are free
   pub free : Fewest base (freeBlocks l) (lengthsOf (l .free))
 
 -- the same with each power of the base given by its height: if such lengths sum to a file's n, the file's pieces are no

@@ -137,8 +137,8 @@ pub record Afterwards (v : Version) (cat d : List ℕ) (b : Book) : Type 0 where
   -- the pieces of a file are the ones of n, those that are free the ones of f
   pub file-pieces : Each (λ (f : File). OnePiecePerOne (fileBlocks f) (f .pieces)) (layout .files)
   pub free-pieces : OnePiecePerOne (bookFree b) (layout .free)
-  -- no division of a file's n blocks into pieces whose lengths are powers of two has fewer pieces than the file, and
-  -- none of the f free blocks has fewer than are free
+  -- no division of a file's n blocks into pieces whose lengths are powers of two has fewer pieces than the file, and no
+  -- division of the f free blocks has fewer than are free
   pub file-fewest : Each (λ (f : File). Fewest 2 (fileBlocks f) (lengthsOf (f .pieces))) (layout .files)
   pub free-fewest : Fewest 2 (bookFree b) (lengthsOf (layout .free))
   -- every block of the disk is in exactly one piece

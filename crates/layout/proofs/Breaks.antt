@@ -60,7 +60,7 @@ break-apart s t n = ap (λ b. indicator (not b)) (ne-eqb (t .first) (endOf s) n)
 
 -- ---- the limit
 
-indicator-most : (b : Bool) → indicator b ≤ 1
+pub indicator-most : (b : Bool) → indicator b ≤ 1
 indicator-most true = omega arith
 indicator-most false = omega arith
 

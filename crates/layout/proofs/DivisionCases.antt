@@ -56,7 +56,7 @@ no-divisions-of-seven = (
   λ d. omega (arith, d .sum),
   λ d. between-powers 2 7 (omega arith) (omega arith) (each-head (d .powers)),
   λ d. between-powers 1 3 (omega arith) (omega arith) (each-head (each-tail (d .powers))),
-  λ d. let zeroth = each-head (d .powers) in omega (arith, zeroth .1, pow-pos (zeroth .0)),
+  λ d. let power = each-head (d .powers) in omega (arith, power .1, pow-pos (power .0)),
 )
 
 -- ---- not the fewest

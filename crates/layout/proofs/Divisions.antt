@@ -70,14 +70,16 @@ module _ (base : ℕ) where
 
   -- ---- in the words of heights
 
-  -- whatever heights: their lengths divide as many blocks as they sum to
-  pub heights-divide : (n : ℕ) (hs : List ℕ) → sumOf (λ h. base ^ h) hs ≡ n → Divides base n (map (λ h. base ^ h) hs)
-  heights-divide n hs e = record {
-    powers = each-map (λ h. base ^ h) (each-all hs (λ h. (h, refl)));
-    sum = sum-map (λ x. x) (λ h. base ^ h) hs ∙ e;
-  }
+  -- whatever has powers of the base as its lengths divides as many blocks as these sum to
+  pub lengths-divide : {A : Type 0} (n : ℕ) (f : A → ℕ) (l : List A) → ((a : A) → PowerOf base (f a)) → sumOf f l ≡ n
+      → Divides base n (map f l)
+  lengths-divide n f l p e = record { powers = each-map f (each-all l p); sum = sum-map (λ x. x) f l ∙ e }
 
-  -- so if they sum to n, they are as many as the fewest or more
+  -- so do heights
+  pub heights-divide : (n : ℕ) (hs : List ℕ) → sumOf (λ h. base ^ h) hs ≡ n → Divides base n (map (λ h. base ^ h) hs)
+  heights-divide n hs = lengths-divide n (λ h. base ^ h) hs (λ h. (h, refl))
+
+  -- and if they sum to n, they are as many as the fewest or more
   pub fewest-heights : {n : ℕ} {ls : List ℕ} → Fewest base n ls → (hs : List ℕ) → sumOf (λ h. base ^ h) hs ≡ n
       → length ls ≤ length hs
   fewest-heights {n} f hs e = omega (

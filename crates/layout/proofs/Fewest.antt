@@ -1,6 +1,5 @@
 -- The fewest pieces among powers of two: the ones of n are the smallest number of pieces into which n blocks can be
 -- divided, for every n, and pieces of which there is one for each 1 of n are the fewest. Assumes nothing.
-use mathlib.Core.Bool.{Bool, false, true}
 use mathlib.Core.List.{List, [], _∷_, map}
 use mathlib.Core.Path.{_∙_, _≡_, ap, refl, subst, sym}
 use Prim.Native.Nat.{_+_, _-_, _^_, _≤_, suc, ℕ}
@@ -10,9 +9,10 @@ use lib.Count.{ones, ones-ones, onesIn}
 use lib.Dec.{eqb}
 use lib.ListN.{length, length-map}
 use borrow.Author.Tests.{eq-eqb, ne-eqb}
-use Rattle.layout.proofs.Divisions.{heights-divide, thin-fewest}
+use Rattle.layout.proofs.Breaks.{indicator-most}
+use Rattle.layout.proofs.Divisions.{heights-divide, lengths-divide, thin-fewest}
 use Rattle.layout.proofs.FreshPieces.{fresh-pieces}
-use Rattle.layout.proofs.Lists.{each-all, each-imp, each-map, pairwise-map, sum-map}
+use Rattle.layout.proofs.Lists.{each-imp, pairwise-map}
 use Rattle.layout.proofs.Ones.{ones-power}
 use Rattle.layout.proofs.PerOne.{below-power, per-one-count, per-one-distinct, per-one-sum}
 use Rattle.layout.specs.Divisions.{Divides, Fewest, SmallestNumber, lengthsOf}
@@ -40,10 +40,7 @@ distinct-once x (next {a = y} {l = l} e p) = go (ℕ-discrete y x) (distinct-onc
 
 -- pieces of n blocks divide them
 pieces-divide : (n : ℕ) (l : List Section) → blockCount l ≡ n → Divides 2 n (lengthsOf l)
-pieces-divide n l e = record {
-  powers = each-map lengthOf (each-all l (λ s. (s .height .value, refl)));
-  sum = sum-map (λ x. x) lengthOf l ∙ e;
-}
+pieces-divide n l = lengths-divide 2 n lengthOf l (λ s. (s .height .value, refl))
 
 -- of all divisions of n blocks none has fewer pieces than there are, if there is one for each 1 of n
 pub per-one-fewest : (n : ℕ) (l : List Section) → OnePiecePerOne n l → Fewest 2 n (lengthsOf l)
@@ -121,8 +118,4 @@ greatest-smallest-numbers = (
 pub fewest-by-four : Fewest 4 24 (16 ∷ 4 ∷ 4 ∷ [])
 fewest-by-four =
     thin-fewest 4 (record { powers = more (2, refl) (more (1, refl) (more (1, refl) done)); sum = refl })
-    (λ x. omega (arith, most (eqb 16 x), most (eqb 4 x)))
-  where
-    most : (b : Bool) → indicator b ≤ 1
-    most true = omega arith
-    most false = omega arith
+    (λ x. omega (arith, indicator-most (eqb 16 x), indicator-most (eqb 4 x)))

@@ -40,7 +40,7 @@ def files(*patterns):
 
 def is_walk(path):
     """Whether a file of proofs/F/ names what Rattle makes of a function."""
-    return re.search(r"/proofs/.+/(Proof|Loops|Reads)\.antt$", path) is not None
+    return re.search(r"/proofs/.+/(Proof|Loops|Reads|Answers|Invariants)\.antt$", path) is not None
 
 
 def definitions(text):
@@ -52,7 +52,7 @@ def definitions(text):
             field_of = it[1] == "record"
             yield it[2], False, True
             continue
-        it = re.match(r"(\s*)((?:(?:pub|abbrev|unfoldable|infixl|infixr) )*)(" + WORD + r") :(?: |$)", line)
+        it = re.match(r"(\s*)((?:(?:pub|abbrev|unfoldable|infixl|infixr) )*)(" + WORD + r")(?: \{[^}]*\})* :(?: |$)", line)
         if it:
             inside = bool(it[1])
             yield it[3], inside and field_of, bool(it[2].replace("pub ", "").strip())
@@ -102,7 +102,7 @@ def main(argv):
     for new, olds in by_new.items():
         if len(olds) > 1 or new in own:
             for old in olds:
-                if "-" in old:
+                if "-" in old and old not in fields:
                     turned[old] = new + "_lem"
     seen = {}
     for old, new in sorted(turned.items()):

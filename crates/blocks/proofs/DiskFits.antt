@@ -3,10 +3,10 @@ use mathlib.Core.Path.{◌≡◌, ap}
 use Prim.Native.Nat.{◌*◌, ◌^◌, ◌≤◌, ℕ}
 use native.Mathlib.Omega.{arith}
 use Rattle.blocks.specs.DiskCode.{EntryFits, MergeFits}
-use Rattle.layout.proofs.Lists.{each-imp}
+use Rattle.layout.proofs.Lists.{each_imp}
 use Rattle.layout.specs.Layout.{OnDisk}
 use Rattle.layout.specs.Lists.{Each}
-use Rattle.section.proofs.Lengths.{pow-lt_inv}
+use Rattle.section.proofs.Lengths.{pow_lt_inv}
 use Rattle.section.specs.Limits.{block_size, greatest_disk, greatest_height, height_count}
 use Rattle.section.specs.Nesting.{upper}
 use Rattle.section.specs.Sections.{buddy_of, end_of}
@@ -16,7 +16,7 @@ use Rattle.table.specs.Tables.{pieces_in}
 use Rattle.table.specs.declared.Entry.{Entry}
 
 height_fits : (c : ℕ) (s : Section) → c ≤ greatest_disk → OnDisk c s → s.height.value ≤ greatest_height
-height_fits c s m o = let h = pow-lt_inv s.height.value height_count (omega (arith, o.within)) in omega arith
+height_fits c s m o = let h = pow_lt_inv s.height.value height_count (omega (arith, o.within)) in omega arith
 
 -- a file whose pieces are on the disk
 pub entry_on_disk : (c : ℕ) (e : Entry) → c ≤ greatest_disk → e.pieces.count ≤ piece_places
@@ -24,7 +24,7 @@ pub entry_on_disk : (c : ℕ) (e : Entry) → c ≤ greatest_disk → e.pieces.c
     → EntryFits (block_size * c) e
 entry_on_disk c e m n o = record {
   count = n;
-  pieces = each-imp (λ s p. record { height = height_fits c s m p; within = bytes s p.within }) o;
+  pieces = each_imp (λ s p. record { height = height_fits c s m p; within = bytes s p.within }) o;
   disk = omega arith;
 }
   where

@@ -8,7 +8,7 @@ use lib.Pow.{pow_pos}
 use Rattle.blocks.proofs.DiskPieces.{no_section, piece_fits, some_piece}
 use Rattle.blocks.specs.DiskCode.{EntryFits}
 use Rattle.layout.specs.Layout.{block_count}
-use Rattle.manager.proofs.FirstPage.{first-page_byte}
+use Rattle.manager.proofs.FirstPage.{first_page_byte}
 use Rattle.manager.specs.Disk.{pages_on}
 use Rattle.piece.proofs.Seen.{seen_get, seen-length}
 use Rattle.piece.specs.Packed.{no_piece, section_in, seen}
@@ -51,6 +51,6 @@ module _ (d : List ℕ) (e : Entry) (fits : EntryFits (length d) e) (some : 1 �
   letter_is =
       let rest = drop 1 (take e.pieces.count sections) in
       ap (λ z. get_or d (block_size * z + letter_place) 0) begins
-      ∙ (sym (first-page_byte d first rest letter_place (omega arith))
+      ∙ (sym (first_page_byte d first rest letter_place (omega arith))
       ∙ sym (ap (λ l. get_or (get_or (pages_on d l) 0 []) letter_place 0)
       (ahead sections e.pieces.count 0 room no_section count)))

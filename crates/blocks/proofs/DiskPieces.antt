@@ -9,7 +9,7 @@ use lib.ListN.{get_or-append, drop, get_or, length, length-take, take}
 use lib.Seq.{length-take-le}
 use Rattle.blocks.proofs.DiskStoring.{get_d_append_past}
 use Rattle.blocks.specs.DiskCode.{EntryFits, HasBlock, HasRun, PieceFits}
-use Rattle.layout.proofs.Lists.{each_append, each-imp}
+use Rattle.layout.proofs.Lists.{each_append, each_imp}
 use Rattle.layout.proofs.Occurs.{length-blocks}
 use Rattle.layout.specs.Layout.{block_count, block_run, blocks_of}
 use Rattle.layout.specs.Lists.{Each, done, more}
@@ -34,7 +34,7 @@ module _ (d : ℕ) (items : List Section) (m j : ℕ) (hm : m ≤ length items) 
 pub entry_wider : (d c : ℕ) (e : Entry) → d ≤ c → c ≤ block_size * greatest_disk → EntryFits d e → EntryFits c e
 entry_wider d c e l m f = record {
   count = f.count;
-  pieces = each-imp (λ s p. record { height = p.height; within = wider s p.within }) f.pieces;
+  pieces = each_imp (λ s p. record { height = p.height; within = wider s p.within }) f.pieces;
   disk = m;
 }
   where

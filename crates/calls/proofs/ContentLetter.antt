@@ -16,5 +16,5 @@ module _ (bs : List ℕ) (paged : unpaged bs ≡ false) where
   pub letter_in_content : letter_place < length bs
   letter_in_content = let p = paged_length bs paged in omega (arith, p.0, p.1)
 
-  pub letter-of_content : get_or bs letter_place 0 ≡ first_letter (cut_pages (page_count bs) bs)
-  letter-of_content = sym (content_letter (page_count bs) bs (paged_length bs paged).0)
+  pub letter_of_content : get_or bs letter_place 0 ≡ first_letter (cut_pages (page_count bs) bs)
+  letter_of_content = sym (content_letter (page_count bs) bs (paged_length bs paged).0)

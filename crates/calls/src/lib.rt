@@ -1,4 +1,6 @@
 // The calls that change a table, past the catalogue: on a table that was loaded, and on a lent disk.
+#![tactic(auto)]
+
 ghost use Rattle.std.specs.Prelude.{◌≡◌};
 ghost use Rattle.calls.specs.Refusing.{refusing};
 
@@ -15,7 +17,7 @@ pub use replacing::replace_in;
 use table::Table;
 
 // What an add, a removal or a replacement makes of a table: the answer, and the table if it is another one now.
-#[derive(Drop)]
+#[derive(Clone, Copy)]
 pub struct Changed {
     pub answer: Answer,
     pub changed: bool,

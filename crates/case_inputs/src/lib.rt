@@ -1,4 +1,6 @@
 // The calls, the refusals that each of them gives, in the order of its checks, and the number of an answer that is one.
+#![tactic(auto)]
+
 ghost use Rattle.std.specs.Prelude.{◌≡◌};
 ghost use Rattle.looking.specs.Answers.{reply_of};
 ghost use Rattle.case_inputs.specs.Refusals.{checks_of, number_in};
@@ -6,7 +8,7 @@ ghost use Rattle.case_inputs.specs.Refusals.{checks_of, number_in};
 use looking::Answer;
 
 // The calls.
-#[derive(Drop)]
+#[derive(Clone, Copy)]
 pub enum Call {
     Format,
     Add,

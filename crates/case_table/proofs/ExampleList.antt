@@ -61,7 +61,7 @@ unfolding performed count_from content_pages bytes_of pages_in_lines line_with w
 replacement_calls_lem = refl
 
 -- one of 64 lines is replaced
-pub one-of_sixty_four-lines :
+pub one_of_sixty_four_lines :
     in_book (replace 64 (replicate 512 82)) (book_with_lines (lines_from 0 64))
     ≡ record {
       reply = any_number;
@@ -69,4 +69,4 @@ pub one-of_sixty_four-lines :
       output = [];
     }
 unfolding count_from content_pages pages_in_lines line_with write_line strike_line counted_from letter_on book_rank
-one-of_sixty_four-lines = refl
+one_of_sixty_four_lines = refl

@@ -19,9 +19,9 @@ pub refusals_hold : map outcomes (refusal_table small) ≡ map refused_all (refu
 unfolding performed
 refusals_hold = refl
 
-pub large-refusals_hold : map outcomes (refusal_table large) ≡ map refused_all (refusal_table large)
+pub large_refusals_hold : map outcomes (refusal_table large) ≡ map refused_all (refusal_table large)
 unfolding performed
-large-refusals_hold = refl
+large_refusals_hold = refl
 
 pub order_holds : map outcomes (order_table small) ≡ map refused_all (order_table small)
 unfolding performed

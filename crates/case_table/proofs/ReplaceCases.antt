@@ -46,10 +46,10 @@ OneOfSixtyFour c =
     ≡ outcome (answered 0) (filled_up c.bytes c.full)
     (filled_blocks 0 63 ++ (replicate 512 82 ++ filled_blocks 64 2)) []
 
-pub one-of_sixty_four : OneOfSixtyFour small
+pub one_of_sixty_four : OneOfSixtyFour small
 unfolding performed
-one-of_sixty_four = refl
+one_of_sixty_four = refl
 
-pub large-one-of_sixty_four : OneOfSixtyFour large
+pub large-one_of_sixty_four : OneOfSixtyFour large
 unfolding performed
-large-one-of_sixty_four = refl
+large-one_of_sixty_four = refl

@@ -48,12 +48,12 @@ pub large_case_six_gives : Gives 16384 used_in_large_six six_rows
 unfolding performed
 large_case_six_gives = refl
 
-pub sixty_four-files_give : Gives 4096 small.full full_rows
+pub sixty_four_files_give : Gives 4096 small.full full_rows
 unfolding performed
-sixty_four-files_give = refl
+sixty_four_files_give = refl
 
 -- 64 lines in the book
-pub sixty_four-lines_give :
+pub sixty_four_lines_give :
     map (step_in (book_with_lines (lines_from 0 64))) full_rows ≡ map (expected_in (book_with_lines (lines_from 0 64))) full_rows
 unfolding pages_in_lines ids_with_room
-sixty_four-lines_give = refl
+sixty_four_lines_give = refl

@@ -1,6 +1,8 @@
 // The cases that are executed: the limits, look-ups, which removal would let blocks in, every refusal of every call,
 // and every call in buffers around the lengths of the catalogues; with the small catalogue and with the large one,
 // whose lines are marked.
+#![tactic(auto)]
+
 mod asking;
 mod buffers;
 mod lent;

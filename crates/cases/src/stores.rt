@@ -2,7 +2,7 @@
 use section::Section;
 
 // The catalogue of version 1, or that of version 2.
-#[derive(Drop)]
+#[derive(Clone, Copy)]
 pub enum Size {
     Small,
     Large,

@@ -43,9 +43,9 @@ greatest_test : is_sound 21 whole_free ≡ true
 unfolding is_sound every pairwise is_on_disk is_aligned shares_block file_pieces
 greatest_test = ap (λ o. eqb 1 o && true) ones-greatest
 
-pub greatest-disk_sound : read_catalogue version2 greatest ≡ sound whole_free
+pub greatest_disk_sound : read_catalogue version2 greatest ≡ sound whole_free
 unfolding read_catalogue judged every
-greatest-disk_sound =
+greatest_disk_sound =
     ap (judged version2) greatest-layout
     ∙ ap (λ t. elim t as (λ _. Reading) [ true ↦ sound whole_free | false ↦ unsound ]) greatest_test
 

@@ -9,7 +9,7 @@ use Rattle.catalogue.specs.Encoding.{used_bytes}
 use Rattle.catalogue.specs.Version.{short_field}
 use Rattle.catalogue.specs.declared.Version.{Version}
 use Rattle.layout.specs.Layout.{File, Layout, by_first, file_blocks}
-use Rattle.layout.specs.Lists.{sortBy}
+use Rattle.layout.specs.Lists.{sort_by}
 use Rattle.section.specs.Sections.{length_of}
 use Rattle.section.specs.declared.Section.{Section}
 
@@ -31,7 +31,7 @@ pairs_bytes-cons w s l = refl
 -- id, blocks, and the pairs by rising first block
 pub entry_bytes_parts : (w : ℕ) (f : File)
     → entry_bytes w f
-    ≡ big_endian short_field f.id ++ (big_endian w (file_blocks f) ++ pairs_bytes w (sortBy by_first f.pieces))
+    ≡ big_endian short_field f.id ++ (big_endian w (file_blocks f) ++ pairs_bytes w (sort_by by_first f.pieces))
 unfolding entry_bytes
 entry_bytes_parts w f = refl
 
@@ -66,7 +66,7 @@ pairs-cons w s l r = simp (pairs_bytes-cons, pair_bytes_parts, append_assoc)
 pub entry_fields : (w : ℕ) (f : File) (r : List ℕ)
     → entry_bytes w f ++ r
     ≡ big_endian short_field f.id
-    ++ (big_endian w (file_blocks f) ++ (pairs_bytes w (sortBy by_first f.pieces) ++ r))
+    ++ (big_endian w (file_blocks f) ++ (pairs_bytes w (sort_by by_first f.pieces) ++ r))
 entry_fields w f r = simp (entry_bytes_parts, append_assoc)
 
 pub entries-cons : (w : ℕ) (f : File) (l : List File) (r : List ℕ)

@@ -16,11 +16,11 @@ use Rattle.catalogue.specs.Encoding.{big_endian, byte_values, entries_bytes, ent
 use Rattle.catalogue.specs.Version.{short_field}
 use Rattle.catalogue.specs.Reading.{Read, bad, file_read, got, pairwise, read_entries, read_entry, read_field}
 use Rattle.catalogue.specs.Reading.{read_pair, read_pairs, section_read, then}
-use Rattle.layout.proofs.Lists.{each-sort, length-sort, pairwise-imp, sum_sort}
+use Rattle.layout.proofs.Lists.{each_sort, length_sort, pairwise_imp, sum_sort}
 use Rattle.layout.proofs.Soundness.{rising_strict}
 use Rattle.layout.proofs.Taking.{sort_rising}
 use Rattle.layout.specs.Layout.{File, block_count, by_first, by_length, file_blocks, holds_block}
-use Rattle.layout.specs.Lists.{Each, Pairwise, done, more, sortBy, sum_of}
+use Rattle.layout.specs.Lists.{Each, Pairwise, done, more, sort_by, sum_of}
 use Rattle.layout.specs.Sound.{greatest_id}
 use Rattle.section.proofs.Lengths.{height-of-length}
 use Rattle.section.specs.Heights.{height_of}
@@ -76,29 +76,29 @@ module _ (w : ℕ) where
       (field_back w (file_blocks f) (pairs_bytes w l ++ r) g.size)
       ∙ (ap (λ z. then (read_pairs z w (pairs_bytes w l ++ r)) λ l r''. file_read f.id (file_blocks f) l r'') count
       ∙ (ap (λ z. then z λ l r''. file_read f.id (file_blocks f) l r'')
-      (pairs_back r (each-sort by_first g.pieces))
+      (pairs_back r (each_sort by_first g.pieces))
       ∙ from))))
     where
       l : List Section
-      l = sortBy by_first f.pieces
+      l = sort_by by_first f.pieces
 
       id_fits : f.id < byte_values ^ short_field
       id_fits = omega (arith, g.id)
 
       count : ones (file_blocks f) ≡ length l
-      count = sym (length-sort by_first f.pieces ∙ g.count)
+      count = sym (length_sort by_first f.pieces ∙ g.count)
 
       rising : pairwise (λ (s t : Section). ltb s.first t.first) l ≡ true
       rising =
           pairs-pairwise _
-          (pairwise-imp (λ s t p. lt-ltb s.first t.first p)
+          (pairwise_imp (λ s t p. lt-ltb s.first t.first p)
           (rising_strict l (sort_rising f.pieces)
           (λ x. omega (arith, sum_sort (holds_block x) by_first f.pieces, g.once x))))
 
       from : file_read f.id (file_blocks f) l r ≡ got f r
       from =
           ap (λ t. elim t as (λ _. Read File) [
-            | true ↦ got (record { id = f.id; pieces = sortBy by_length l }) r
+            | true ↦ got (record { id = f.id; pieces = sort_by by_length l }) r
             | false ↦ bad
           ])
           (and_intro (eq-eqb (block_count l) (file_blocks f) (sum_sort length_of by_first f.pieces)) rising)

@@ -22,11 +22,11 @@ use Rattle.catalogue.specs.Reading.{read_layout, sound, unsound}
 use Rattle.catalogue.specs.Roomy.{Roomy}
 use Rattle.catalogue.specs.declared.Version.{Version}
 use Rattle.layout.proofs.Cover.{disjoint_le}
-use Rattle.layout.proofs.Lists.{each_and, each-imp, each_left, each_right, pairwise-imp, sum-append}
+use Rattle.layout.proofs.Lists.{each_and, each_imp, each_left, each_right, pairwise_imp, sum-append}
 use Rattle.layout.specs.Layout.{File, Layout, OnDisk, all_pieces, file_blocks, file_pieces, holds_block}
 use Rattle.layout.specs.Lists.{Each, Pairwise, done, more, sum_of}
 use Rattle.layout.specs.Sound.{Sound, greatest_id}
-use Rattle.section.proofs.Lengths.{pow-lt_inv}
+use Rattle.section.proofs.Lengths.{pow_lt_inv}
 use Rattle.section.specs.Limits.{greatest_disk, most_files}
 use Rattle.section.specs.Sections.{length_of}
 use Rattle.section.specs.declared.Section.{Section}
@@ -49,7 +49,7 @@ module _ (v : Version) (room : Roomy v) (l : Layout) (s : Sound v.heights l) whe
   )
 
   pub pieces_fit : Each (Fits v.width) (all_pieces l)
-  pieces_fit = each-imp (λ p q. fits p q.0 q.1) (each_and s.on_disk s.heights)
+  pieces_fit = each_imp (λ p q. fits p q.0 q.1) (each_and s.on_disk s.heights)
 
   once : (x : ℕ) → sum_of (holds_block x) (all_pieces l) ≤ 1
   once x = disjoint_le x s.apart
@@ -66,7 +66,7 @@ module _ (v : Version) (room : Roomy v) (l : Layout) (s : Sound v.heights l) whe
       more {a = f}
       (record {
         id = d;
-        order = pairwise-imp (λ x y q. pow-lt_inv y.height.value x.height.value q) e;
+        order = pairwise_imp (λ x y q. pow_lt_inv y.height.value x.height.value q) e;
         pieces = each_left f.pieces (file_pieces fs) a;
         once = λ x. omega (arith, b x, sum-append (holds_block x) f.pieces (file_pieces fs));
         size = omega (arith, blocks-fit);

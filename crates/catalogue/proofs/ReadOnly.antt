@@ -16,9 +16,9 @@ use Rattle.catalogue.specs.Encoding.{Bytes, big_endian, entries_bytes, entry_byt
 use Rattle.catalogue.specs.Version.{short_field}
 use Rattle.catalogue.specs.Reading.{Read, bad, file_read, got, pairwise, read_entries, read_entry, read_field}
 use Rattle.catalogue.specs.Reading.{read_pair, read_pairs, section_read, then}
-use Rattle.layout.proofs.Lists.{pairwise-imp, sum_sort}
+use Rattle.layout.proofs.Lists.{pairwise_imp, sum_sort}
 use Rattle.layout.specs.Layout.{File, block_count, by_length}
-use Rattle.layout.specs.Lists.{sortBy}
+use Rattle.layout.specs.Lists.{sort_by}
 use Rattle.layout.specs.Moves.{same}
 use Rattle.section.proofs.Lengths.{length-of-height}
 use Rattle.section.specs.Heights.{height_of}
@@ -98,7 +98,7 @@ module _ (w : ℕ) where
 
   file_inv : (i n : ℕ) (l : List Section) (r : List ℕ) (f : File) (r' : List ℕ) → file_read i n l r ≡ got f r'
       → (block_count l ≡ n) × (pairwise (λ (s t : Section). ltb s.first t.first) l ≡ true)
-      × (◌≡◌ {A = File} (record { id = i; pieces = sortBy by_length l }) f) × (r ≡ r')
+      × (◌≡◌ {A = File} (record { id = i; pieces = sort_by by_length l }) f) × (r ≡ r')
   unfolding file_read
   file_inv i n l r f r' e =
       go (eqb (block_count l) n) refl (pairwise (λ (s t : Section). ltb s.first t.first) l) refl e
@@ -106,15 +106,15 @@ module _ (w : ℕ) where
       go : (s : Bool) → eqb (block_count l) n ≡ s → (t : Bool)
           → pairwise (λ (s t : Section). ltb s.first t.first) l ≡ t
           → elim (s && t) as (λ _. Read File)
-          [ true ↦ got (record { id = i; pieces = sortBy by_length l }) r | false ↦ bad ]
+          [ true ↦ got (record { id = i; pieces = sort_by by_length l }) r | false ↦ bad ]
           ≡ got f r'
           → (block_count l ≡ n) × (pairwise (λ (s t : Section). ltb s.first t.first) l ≡ true)
-          × (◌≡◌ {A = File} (record { id = i; pieces = sortBy by_length l }) f) × (r ≡ r')
+          × (◌≡◌ {A = File} (record { id = i; pieces = sort_by by_length l }) f) × (r ≡ r')
       go true p true q x = (
         eqb-true (block_count l) n p,
         q,
-        got_value (record { id = i; pieces = sortBy by_length l }) f r r' x,
-        got_rest (record { id = i; pieces = sortBy by_length l }) f r r' x,
+        got_value (record { id = i; pieces = sort_by by_length l }) f r r' x,
+        got_rest (record { id = i; pieces = sort_by by_length l }) f r r' x,
       )
       go true p false q x = absurd (let z : ◌≡◌ {A = ℕ} 0 1 = cc in omega arith)
       go false p t q x = absurd (let z : ◌≡◌ {A = ℕ} 0 1 = cc in omega arith)
@@ -139,17 +139,17 @@ module _ (w : ℕ) where
       fin : (i n : ℕ) (l : List Section) (r' : List ℕ)
           → bs ≡ big_endian short_field i ++ (big_endian w n ++ (pairs_bytes w l ++ r')) → Bytes r'
           → (block_count l ≡ n) × (pairwise (λ (s t : Section). ltb s.first t.first) l ≡ true)
-          × (◌≡◌ {A = File} (record { id = i; pieces = sortBy by_length l }) f) × (r' ≡ r)
+          × (◌≡◌ {A = File} (record { id = i; pieces = sort_by by_length l }) f) × (r' ≡ r)
           → (bs ≡ entry_bytes w f ++ r) × Bytes r
       fin i n l r' eq br (sz, ri, ff, rr) =
-          let back = firsts_back (pairwise-imp (λ s t. ltb-true s.first t.first) (pairwise-pairs _ l ri)) in
-          let same : bs ≡ entry_bytes w (record { id = i; pieces = sortBy by_length l }) ++ r' =
+          let back = firsts_back (pairwise_imp (λ s t. ltb-true s.first t.first) (pairwise-pairs _ l ri)) in
+          let same : bs ≡ entry_bytes w (record { id = i; pieces = sort_by by_length l }) ++ r' =
           eq
           ∙ (ap₂ (λ a c. big_endian short_field i ++ (big_endian w a ++ (pairs_bytes w c ++ r')))
           (sym (sum_sort length_of by_length l ∙ sz)) (sym back)
-          ∙ sym (entry_fields w (record { id = i; pieces = sortBy by_length l }) r')) in (
+          ∙ sym (entry_fields w (record { id = i; pieces = sort_by by_length l }) r')) in (
             subst (λ (g : File). bs ≡ entry_bytes w g ++ r) ff
-                (subst (λ t. bs ≡ entry_bytes w (record { id = i; pieces = sortBy by_length l }) ++ t) rr same),
+                (subst (λ t. bs ≡ entry_bytes w (record { id = i; pieces = sort_by by_length l }) ++ t) rr same),
             subst Bytes rr br,
           )
 

@@ -12,7 +12,7 @@ use lib.ListN.{length, length-append, replicate}
 use borrow.Author.Tests.{eqb-true}
 use Rattle.catalogue.proofs.ReadBackLayout.{catalogue_back}
 use Rattle.catalogue.proofs.ReadOnlyLayout.{layout_inv}
-use Rattle.catalogue.proofs.Tests.{every-each, test_sound}
+use Rattle.catalogue.proofs.Tests.{every_each, test_sound}
 use Rattle.catalogue.specs.Encoding.{Bytes, encode, used_bytes}
 use Rattle.catalogue.specs.Reading.{Read, Reading, bad, every, got, is_sound, judged, read_catalogue}
 use Rattle.catalogue.specs.Reading.{read_layout, sound, unsound}
@@ -61,7 +61,7 @@ module _ (v : Version) (room : Roomy v) where
           → cat ≡ used_bytes v l ++ replicate (v.bytes - length (used_bytes v l)) 0
       chk m r true true q p x =
           let same : m ≡ l = cc in
-          fin r (layout_inv v cat l r b (p ∙ ap (λ z. got z r) same)) (every-each (λ b. eqb b 0) r q)
+          fin r (layout_inv v cat l r b (p ∙ ap (λ z. got z r) same)) (every_each (λ b. eqb b 0) r q)
       chk m r true false q p x = absurd (let z : ◌≡◌ {A = ℕ} 0 1 = cc in omega arith)
       chk m r false t q p x = absurd (let z : ◌≡◌ {A = ℕ} 0 1 = cc in omega arith)
 

@@ -52,12 +52,12 @@ all_roomy : Each Roomy versions
 all_roomy = more version1_roomy (more version2_roomy done)
 
 -- what holds of each of a list holds of one of it
-pub each-one {κ} : {A : Type 0} {P : A → Type κ} {l : List A} {a : A} → Each P l → OneOf a l → P a
-each-one (more p e) here = p
-each-one (more p e) (later o) = each-one e o
+pub each_one {κ} : {A : Type 0} {P : A → Type κ} {l : List A} {a : A} → Each P l → OneOf a l → P a
+each_one (more p e) here = p
+each_one (more p e) (later o) = each_one e o
 
 pub roomy : {v : Version} → OneOf v versions → Roomy v
-roomy = each-one all_roomy
+roomy = each_one all_roomy
 
 pub served : {v : Version} → OneOf v versions → Served v
 served known = (roomy known).served

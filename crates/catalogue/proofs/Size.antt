@@ -16,9 +16,9 @@ use Rattle.catalogue.specs.Encoding.{pairs_bytes, used_bytes}
 use Rattle.catalogue.specs.Roomy.{Roomy, used_most}
 use Rattle.catalogue.specs.Version.{short_field}
 use Rattle.catalogue.specs.declared.Version.{Version}
-use Rattle.layout.proofs.Lists.{each_append, length-sort}
+use Rattle.layout.proofs.Lists.{each_append, length_sort}
 use Rattle.layout.specs.Layout.{File, Layout, by_first, file_blocks, free_blocks}
-use Rattle.layout.specs.Lists.{Each, done, more, sortBy, sum_of}
+use Rattle.layout.specs.Lists.{Each, done, more, sort_by, sum_of}
 use Rattle.layout.specs.Sound.{Sound}
 use Rattle.section.proofs.Multiples.{below_or_not}
 use Rattle.section.specs.Sections.{length_of}
@@ -59,7 +59,7 @@ pairs-length w (s ∷ l) =
 
 entry_length : (w : ℕ) (f : File) → length (entry_bytes w f) ≡ short_field + w + 2 * w * length f.pieces
 entry_length w f =
-    let l = sortBy by_first f.pieces in
+    let l = sort_by by_first f.pieces in
     omega (
       arith,
       ap length (entry_bytes_parts w f),
@@ -68,7 +68,7 @@ entry_length w f =
       big_endian-length short_field f.id,
       big_endian-length w (file_blocks f),
       pairs-length w l,
-      ap (λ z. 2 * w * z) (length-sort by_first f.pieces),
+      ap (λ z. 2 * w * z) (length_sort by_first f.pieces),
     )
 
 entries_most : (w p : ℕ) {fs : List File} → Each (λ (f : File). length f.pieces ≤ p) fs
@@ -159,7 +159,7 @@ entries-bytes w (f ∷ fs) =
     rw (entries_bytes-cons w f fs, entry_bytes_parts w f)
     (each_append
     (each_append (big_endian-bytes short_field f.id)
-    (each_append (big_endian-bytes w (file_blocks f)) (pairs-bytes w (sortBy by_first f.pieces))))
+    (each_append (big_endian-bytes w (file_blocks f)) (pairs-bytes w (sort_by by_first f.pieces))))
     (entries-bytes w fs))
 
 header-bytes : (v : Version) (l : Layout) → Bytes (header_bytes v l)

@@ -7,21 +7,21 @@ use native.Mathlib.Nat.{le_of_lt}
 use native.Mathlib.Omega.{arith}
 use lib.Dec.{leb}
 use borrow.Author.Tests.{le-leb, leb-false, leb-true}
-use Rattle.layout.proofs.Lists.{each-imp, each-sort, pairwise-imp}
+use Rattle.layout.proofs.Lists.{each_imp, each_sort, pairwise_imp}
 use Rattle.layout.specs.Layout.{by_first, by_length}
-use Rattle.layout.specs.Lists.{Each, Pairwise, done, insertBy, more, next, none, sortBy}
+use Rattle.layout.specs.Lists.{Each, Pairwise, done, insert_by, more, next, none, sort_by}
 use Rattle.section.specs.declared.Section.{Section}
 
 -- Two orders: a list in the order le, sorted in another order and back.
 module _ (le : Section → Section → Bool) (tr : (a b c : Section) → le a b ≡ true → le b c ≡ true → le a c ≡ true)
     (tot : (a b : Section) → le a b ≡ false → le b a ≡ true) where
-  first_of : (a b : Section) (l : List Section) → le a b ≡ true → insertBy le a (b ∷ l) ≡ a ∷ b ∷ l
-  unfolding insertBy
-  first_of a b l p = rw (p, insertBy)
+  first_of : (a b : Section) (l : List Section) → le a b ≡ true → insert_by le a (b ∷ l) ≡ a ∷ b ∷ l
+  unfolding insert_by
+  first_of a b l p = rw (p, insert_by)
 
-  later_of : (a b : Section) (l : List Section) → le a b ≡ false → insertBy le a (b ∷ l) ≡ b ∷ insertBy le a l
-  unfolding insertBy
-  later_of a b l p = rw (p, insertBy)
+  later_of : (a b : Section) (l : List Section) → le a b ≡ false → insert_by le a (b ∷ l) ≡ b ∷ insert_by le a l
+  unfolding insert_by
+  later_of a b l p = rw (p, insert_by)
 
   -- not both ways
   abbrev pub Unlike : Section → Section → Type 0
@@ -38,80 +38,80 @@ module _ (le : Section → Section → Bool) (tr : (a b c : Section) → le a b 
   clash a b c p q r = let x = tr a b c r q in let z : ◌≡◌ {A = ℕ} 0 1 = cc in omega arith
 
   insert_comm : (a b : Section) → Unlike a b → (l : List Section)
-      → insertBy le a (insertBy le b l) ≡ insertBy le b (insertBy le a l)
-  unfolding insertBy
+      → insert_by le a (insert_by le b l) ≡ insert_by le b (insert_by le a l)
+  unfolding insert_by
   insert_comm a b ne [] = go (le a b) refl
     where
-      go : (t : Bool) → le a b ≡ t → insertBy le a (b ∷ []) ≡ insertBy le b (a ∷ [])
+      go : (t : Bool) → le a b ≡ t → insert_by le a (b ∷ []) ≡ insert_by le b (a ∷ [])
       go true p = first_of a b [] p ∙ sym (later_of b a [] (flip a b ne p))
       go false p = later_of a b [] p ∙ sym (first_of b a [] (tot a b p))
   insert_comm a b ne (c ∷ l) = go (le a c) refl (le b c) refl (le a b) refl (insert_comm a b ne l)
     where
       go : (s : Bool) → le a c ≡ s → (t : Bool) → le b c ≡ t → (r : Bool) → le a b ≡ r
-          → insertBy le a (insertBy le b l) ≡ insertBy le b (insertBy le a l)
-          → insertBy le a (insertBy le b (c ∷ l)) ≡ insertBy le b (insertBy le a (c ∷ l))
+          → insert_by le a (insert_by le b l) ≡ insert_by le b (insert_by le a l)
+          → insert_by le a (insert_by le b (c ∷ l)) ≡ insert_by le b (insert_by le a (c ∷ l))
       go false p false q r x ih =
-          ap (insertBy le a) (later_of b c l q)
-          ∙ (later_of a c (insertBy le b l) p
+          ap (insert_by le a) (later_of b c l q)
+          ∙ (later_of a c (insert_by le b l) p
           ∙ (ap (λ z. c ∷ z) ih
-          ∙ (sym (later_of b c (insertBy le a l) q) ∙ sym (ap (insertBy le b) (later_of a c l p)))))
+          ∙ (sym (later_of b c (insert_by le a l) q) ∙ sym (ap (insert_by le b) (later_of a c l p)))))
       go false p true q true x ih = absurd (clash a b c p q x)
       go false p true q false x ih =
-          ap (insertBy le a) (first_of b c l q)
+          ap (insert_by le a) (first_of b c l q)
           ∙ (later_of a b (c ∷ l) x
           ∙ (ap (λ z. b ∷ z) (later_of a c l p)
-          ∙ (sym (first_of b c (insertBy le a l) q) ∙ sym (ap (insertBy le b) (later_of a c l p)))))
+          ∙ (sym (first_of b c (insert_by le a l) q) ∙ sym (ap (insert_by le b) (later_of a c l p)))))
       go true p false q true x ih =
-          ap (insertBy le a) (later_of b c l q)
-          ∙ (first_of a c (insertBy le b l) p
+          ap (insert_by le a) (later_of b c l q)
+          ∙ (first_of a c (insert_by le b l) p
           ∙ (ap (λ z. a ∷ z) (sym (later_of b c l q))
-          ∙ (sym (later_of b a (c ∷ l) (flip a b ne x)) ∙ sym (ap (insertBy le b) (first_of a c l p)))))
+          ∙ (sym (later_of b a (c ∷ l) (flip a b ne x)) ∙ sym (ap (insert_by le b) (first_of a c l p)))))
       go true p false q false x ih = absurd (clash b a c q p (tot a b x))
       go true p true q false x ih =
-          ap (insertBy le a) (first_of b c l q)
+          ap (insert_by le a) (first_of b c l q)
           ∙ (later_of a b (c ∷ l) x
           ∙ (ap (λ z. b ∷ z) (first_of a c l p)
-          ∙ (sym (first_of b a (c ∷ l) (tot a b x)) ∙ sym (ap (insertBy le b) (first_of a c l p)))))
+          ∙ (sym (first_of b a (c ∷ l) (tot a b x)) ∙ sym (ap (insert_by le b) (first_of a c l p)))))
       go true p true q true x ih =
-          ap (insertBy le a) (first_of b c l q)
+          ap (insert_by le a) (first_of b c l q)
           ∙ (first_of a b (c ∷ l) x
           ∙ (ap (λ z. a ∷ z) (sym (first_of b c l q))
-          ∙ (sym (later_of b a (c ∷ l) (flip a b ne x)) ∙ sym (ap (insertBy le b) (first_of a c l p)))))
+          ∙ (sym (later_of b a (c ∷ l) (flip a b ne x)) ∙ sym (ap (insert_by le b) (first_of a c l p)))))
 
   sort_insert : (lf : Section → Section → Bool) (a : Section) {l : List Section} → Each (Unlike a) l
-      → sortBy le (insertBy lf a l) ≡ insertBy le a (sortBy le l)
-  unfolding sortBy insertBy
+      → sort_by le (insert_by lf a l) ≡ insert_by le a (sort_by le l)
+  unfolding sort_by insert_by
   sort_insert lf a done = refl
   sort_insert lf a (more {a = b} {l = l} p e) = go (lf a b) (sort_insert lf a e)
     where
-      go : (t : Bool) → sortBy le (insertBy lf a l) ≡ insertBy le a (sortBy le l)
-          → sortBy le (elim t as (λ _. List Section) [ true ↦ a ∷ b ∷ l | false ↦ b ∷ insertBy lf a l ])
-          ≡ insertBy le a (insertBy le b (sortBy le l))
+      go : (t : Bool) → sort_by le (insert_by lf a l) ≡ insert_by le a (sort_by le l)
+          → sort_by le (elim t as (λ _. List Section) [ true ↦ a ∷ b ∷ l | false ↦ b ∷ insert_by lf a l ])
+          ≡ insert_by le a (insert_by le b (sort_by le l))
       go true ih = refl
-      go false ih = ap (insertBy le b) ih ∙ sym (insert_comm a b p (sortBy le l))
+      go false ih = ap (insert_by le b) ih ∙ sym (insert_comm a b p (sort_by le l))
 
   -- in the order le, and no two alike
   abbrev pub Strict : List Section → Type 0
   Strict l = Pairwise (λ (a b : Section). (le a b ≡ true) × Unlike a b) l
 
-  sort_strict : {l : List Section} → Strict l → sortBy le l ≡ l
-  unfolding sortBy insertBy
+  sort_strict : {l : List Section} → Strict l → sort_by le l ≡ l
+  unfolding sort_by insert_by
   sort_strict none = refl
-  sort_strict (next {a = a} {l = l} e f) = ap (insertBy le a) (sort_strict f) ∙ go l e
+  sort_strict (next {a = a} {l = l} e f) = ap (insert_by le a) (sort_strict f) ∙ go l e
     where
-      go : (m : List Section) → Each (λ b. (le a b ≡ true) × Unlike a b) m → insertBy le a m ≡ a ∷ m
+      go : (m : List Section) → Each (λ b. (le a b ≡ true) × Unlike a b) m → insert_by le a m ≡ a ∷ m
       go [] e = refl
       go (b ∷ m) (more p e) = first_of a b m p.0
 
   pub sort_there_and_back : (lf : Section → Section → Bool) {l : List Section} → Strict l
-      → sortBy le (sortBy lf l) ≡ l
-  unfolding sortBy
+      → sort_by le (sort_by lf l) ≡ l
+  unfolding sort_by
   sort_there_and_back lf f = twice f ∙ sort_strict f
     where
-      twice : {l : List Section} → Strict l → sortBy le (sortBy lf l) ≡ sortBy le l
+      twice : {l : List Section} → Strict l → sort_by le (sort_by lf l) ≡ sort_by le l
       twice none = refl
       twice (next {a = a} {l = l} e f) =
-          sort_insert lf a (each-sort lf (each-imp (λ b p. p.1) e)) ∙ ap (insertBy le a) (twice f)
+          sort_insert lf a (each_sort lf (each_imp (λ b p. p.1) e)) ∙ ap (insert_by le a) (twice f)
 
 leb_trans : (a b c : ℕ) → leb a b ≡ true → leb b c ≡ true → leb a c ≡ true
 leb_trans a b c p q = le-leb a c (omega (arith, leb-true a b p, leb-true b c q))
@@ -121,22 +121,22 @@ leb_total a b p = le-leb b a (omega (arith, leb-false a b p))
 
 -- by first block, and back by length
 pub sort_back : {l : List Section} → Pairwise (λ (s t : Section). t.height.value < s.height.value) l
-    → sortBy by_length (sortBy by_first l) ≡ l
+    → sort_by by_length (sort_by by_first l) ≡ l
 sort_back f =
     sort_there_and_back by_length
     (λ a b c p q. leb_trans c.height.value b.height.value a.height.value q p)
     (λ a b p. leb_total b.height.value a.height.value p) by_first
-    (pairwise-imp (λ a b p. (
+    (pairwise_imp (λ a b p. (
       le-leb b.height.value a.height.value (le_of_lt p),
       λ x y. omega (arith, leb-true a.height.value b.height.value y),
     )) f)
 
 -- by length, and back by first block
 pub firsts_back : {l : List Section} → Pairwise (λ (s t : Section). s.first < t.first) l
-    → sortBy by_first (sortBy by_length l) ≡ l
+    → sort_by by_first (sort_by by_length l) ≡ l
 firsts_back f =
     sort_there_and_back by_first (λ a b c. leb_trans a.first b.first c.first)
     (λ a b. leb_total a.first b.first) by_length
-    (pairwise-imp
+    (pairwise_imp
     (λ a b p. (le-leb a.first b.first (le_of_lt p), λ x y. omega (arith, leb-true b.first a.first y)))
     f)

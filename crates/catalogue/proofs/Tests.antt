@@ -8,7 +8,7 @@ use lib.Dec.{eqb, ltb}
 use lib.ListN.{length}
 use borrow.Author.Tests.{eq-eqb, eqb-false, eqb-true, le-leb, leb-true, lt-ltb, ltb-true, ne_eqb, not-true}
 use Rattle.catalogue.specs.Reading.{every, is_sound, pairwise, sound_file, sound_free, sound_piece}
-use Rattle.layout.proofs.Lists.{each_and, each-imp, pairwise-imp}
+use Rattle.layout.proofs.Lists.{each_and, each_imp, pairwise_imp}
 use Rattle.layout.proofs.Ranges.{within}
 use Rattle.layout.specs.Layout.{File, Layout, OnDisk, all_pieces, block_count, file_blocks, free_blocks}
 use Rattle.layout.specs.Lists.{Each, Pairwise, done, more, next, none, sum_of}
@@ -22,15 +22,15 @@ use Rattle.section.specs.declared.Section.{Section}
 pub and_intro : {a b : Bool} → a ≡ true → b ≡ true → (a && b) ≡ true
 and_intro p q = ap₂ (λ x y. x && y) p q
 
-pub every-each {ℓ} : {A : Type ℓ} (p : A → Bool) (l : List A) → every p l ≡ true → Each (λ a. p a ≡ true) l
+pub every_each {ℓ} : {A : Type ℓ} (p : A → Bool) (l : List A) → every p l ≡ true → Each (λ a. p a ≡ true) l
 unfolding every
-every-each p [] e = done
-every-each p (a ∷ l) e = let x = and_true (p a) (every p l) e in more {a = a} x.0 (every-each p l x.1)
+every_each p [] e = done
+every_each p (a ∷ l) e = let x = and_true (p a) (every p l) e in more {a = a} x.0 (every_each p l x.1)
 
-pub each-every {ℓ} : {A : Type ℓ} (p : A → Bool) {l : List A} → Each (λ a. p a ≡ true) l → every p l ≡ true
+pub each_every {ℓ} : {A : Type ℓ} (p : A → Bool) {l : List A} → Each (λ a. p a ≡ true) l → every p l ≡ true
 unfolding every
-each-every p done = refl
-each-every p (more q e) = and_intro q (each-every p e)
+each_every p done = refl
+each_every p (more q e) = and_intro q (each_every p e)
 
 pub pairwise-pairs {ℓ} : {A : Type ℓ} (r : A → A → Bool) (l : List A) → pairwise r l ≡ true
     → Pairwise (λ a b. r a b ≡ true) l
@@ -38,13 +38,13 @@ unfolding pairwise
 pairwise-pairs r [] e = none
 pairwise-pairs r (a ∷ l) e =
     let x = and_true (every (r a) l) (pairwise r l) e in
-    next (every-each (r a) l x.0) (pairwise-pairs r l x.1)
+    next (every_each (r a) l x.0) (pairwise-pairs r l x.1)
 
 pub pairs-pairwise {ℓ} : {A : Type ℓ} (r : A → A → Bool) {l : List A} → Pairwise (λ a b. r a b ≡ true) l
     → pairwise r l ≡ true
 unfolding pairwise
 pairs-pairwise r none = refl
-pairs-pairwise r (next {a = a} e p) = and_intro (each-every (r a) e) (pairs-pairwise r p)
+pairs-pairwise r (next {a = a} e p) = and_intro (each_every (r a) e) (pairs-pairwise r p)
 
 not_false_true : (b : Bool) → b ≡ false → not b ≡ true
 not_false_true b e = ap not e
@@ -77,7 +77,7 @@ sound_file_lem f e =
       least_id = leb-true 1 f.id a.0;
       most_id = leb-true f.id greatest_id b.0;
       some_pages = leb-true 1 (file_blocks f) c.0;
-      page_order = pairwise-imp (λ s t. ltb-true (length_of t) (length_of s)) (pairwise-pairs _ f.pieces d.0);
+      page_order = pairwise_imp (λ s t. ltb-true (length_of t) (length_of s)) (pairwise-pairs _ f.pieces d.0);
       file_count = eqb-true (length f.pieces) (ones (file_blocks f)) d.1;
     }
 
@@ -86,7 +86,7 @@ file_sound f r =
     and_intro (le-leb 1 f.id r.least_id)
     (and_intro (le-leb f.id greatest_id r.most_id)
     (and_intro (le-leb 1 (file_blocks f) r.some_pages)
-    (and_intro (pairs-pairwise _ (pairwise-imp (λ s t. lt-ltb (length_of t) (length_of s)) r.page_order))
+    (and_intro (pairs-pairwise _ (pairwise_imp (λ s t. lt-ltb (length_of t) (length_of s)) r.page_order))
     (eq-eqb (length f.pieces) (ones (file_blocks f)) r.file_count))))
 
 -- ---- the whole layout
@@ -106,30 +106,30 @@ module _ (k : ℕ) (l : Layout) where
       let f1 = and_true _ _ a7.0 in
       let f2 = and_true _ _ f1.1 in
       let f3 = and_true _ _ f2.1 in
-      let files = each-imp sound_file_lem (every-each sound_file l.files a5.0) in
+      let files = each_imp sound_file_lem (every_each sound_file l.files a5.0) in
       let pieces =
-      each-imp (sound_piece_lem k l.blocks) (every-each (sound_piece k l.blocks) (all_pieces l) a8.0) in
+      each_imp (sound_piece_lem k l.blocks) (every_each (sound_piece k l.blocks) (all_pieces l) a8.0) in
       record {
         some_blocks = leb-true 1 l.blocks a1.0;
         most_blocks = leb-true l.blocks (2 ^ (k - 1)) a2.0;
         most_files = leb-true (length l.files) most_files a3.0;
-        least_id = each-imp (λ f r. r.least_id) files;
-        most_id = each-imp (λ f r. r.most_id) files;
-        ids_rise = pairwise-imp (λ f g. ltb-true f.id g.id) (pairwise-pairs _ l.files a4.0);
-        some_pages = each-imp (λ f r. r.some_pages) files;
+        least_id = each_imp (λ f r. r.least_id) files;
+        most_id = each_imp (λ f r. r.most_id) files;
+        ids_rise = pairwise_imp (λ f g. ltb-true f.id g.id) (pairwise-pairs _ l.files a4.0);
+        some_pages = each_imp (λ f r. r.some_pages) files;
         pages_fit = leb-true (sum_of file_blocks l.files) l.blocks a6.0;
-        on_disk_lem = each-imp (λ s p. p.0) pieces;
-        heights = each-imp (λ s p. p.1) pieces;
-        page_order = each-imp (λ f r. r.page_order) files;
-        file_count = each-imp (λ f r. r.file_count) files;
-        free_rise = pairwise-imp (λ s t. ltb-true s.first t.first) (pairwise-pairs _ l.free f1.0);
+        on_disk = each_imp (λ s p. p.0) pieces;
+        heights = each_imp (λ s p. p.1) pieces;
+        page_order = each_imp (λ f r. r.page_order) files;
+        file_count = each_imp (λ f r. r.file_count) files;
+        free_rise = pairwise_imp (λ s t. ltb-true s.first t.first) (pairwise-pairs _ l.free f1.0);
         free_distinct =
-            pairwise-imp (λ s t q. eqb-false (length_of s) (length_of t) (not-true (eqb (length_of s) (length_of t)) q))
+            pairwise_imp (λ s t q. eqb-false (length_of s) (length_of t) (not-true (eqb (length_of s) (length_of t)) q))
             (pairwise-pairs _ l.free f2.0);
         free_sum = eqb-true (block_count l.free) (free_blocks l) f3.0;
         free_count = eqb-true (length l.free) (ones (free_blocks l)) f3.1;
         apart =
-            pairwise-imp (λ s t q. (apart_iff s t).0 (not-true (shares_block s t) q))
+            pairwise_imp (λ s t q. (apart_iff s t).0 (not-true (shares_block s t) q))
             (pairwise-pairs _ (all_pieces l) a8.1);
       }
 
@@ -139,19 +139,19 @@ module _ (k : ℕ) (l : Layout) where
       and_intro (le-leb 1 l.blocks s.some_blocks)
       (and_intro (le-leb l.blocks (2 ^ (k - 1)) s.most_blocks)
       (and_intro (le-leb (length l.files) most_files s.most_files)
-      (and_intro (pairs-pairwise _ (pairwise-imp (λ f g. lt-ltb f.id g.id) s.ids_rise))
-      (and_intro (each-every sound_file files)
+      (and_intro (pairs-pairwise _ (pairwise_imp (λ f g. lt-ltb f.id g.id) s.ids_rise))
+      (and_intro (each_every sound_file files)
       (and_intro (le-leb (sum_of file_blocks l.files) l.blocks s.pages_fit)
       (and_intro free
       (and_intro
-      (each-every (sound_piece k l.blocks)
-      (each-imp (λ p q. piece_sound k l.blocks p q.0 q.1) (each_and s.on_disk s.heights)))
+      (each_every (sound_piece k l.blocks)
+      (each_imp (λ p q. piece_sound k l.blocks p q.0 q.1) (each_and s.on_disk s.heights)))
       (pairs-pairwise _
-      (pairwise-imp (λ a b q. not_false_true (shares_block a b) ((apart_iff a b).1 q)) s.apart)))))))))
+      (pairwise_imp (λ a b q. not_false_true (shares_block a b) ((apart_iff a b).1 q)) s.apart)))))))))
     where
       rules : Each FileRules l.files
       rules =
-          each-imp (λ f q. record {
+          each_imp (λ f q. record {
             least_id = q.0;
             most_id = q.1.0;
             some_pages = q.1.1.0;
@@ -162,14 +162,14 @@ module _ (k : ℕ) (l : Layout) where
           (each_and s.most_id (each_and s.some_pages (each_and s.page_order s.file_count))))
 
       files : Each (λ f. sound_file f ≡ true) l.files
-      files = each-imp file_sound rules
+      files = each_imp file_sound rules
 
       free : sound_free l ≡ true
       free =
-          and_intro (pairs-pairwise _ (pairwise-imp (λ a b. lt-ltb a.first b.first) s.free_rise))
+          and_intro (pairs-pairwise _ (pairwise_imp (λ a b. lt-ltb a.first b.first) s.free_rise))
           (and_intro
           (pairs-pairwise _
-          (pairwise-imp
+          (pairwise_imp
           (λ a b q. not_false_true (eqb (length_of a) (length_of b)) (ne_eqb (length_of a) (length_of b) q))
           s.free_distinct))
           (and_intro (eq-eqb (block_count l.free) (free_blocks l) s.free_sum)

@@ -2,7 +2,7 @@
 use Rattle.std.specs.Prelude.{List, [], ◌∷◌, ◌++◌, ◌%◌, ◌-◌, ◌/◌, ◌<◌, ◌^◌, suc, zero, ℕ, length, replicate}
 use Rattle.section.specs.declared.Section.{Section}
 use Rattle.section.specs.Sections.{length_of}
-use Rattle.layout.specs.Lists.{Each, sortBy}
+use Rattle.layout.specs.Lists.{Each, sort_by}
 use Rattle.layout.specs.Layout.{File, Layout, file_blocks, by_first}
 use Rattle.catalogue.specs.Version.{short_field}
 use Rattle.catalogue.specs.declared.Version.{Version}
@@ -31,7 +31,7 @@ pairs_bytes w (s ∷ l) = pair_bytes w s ++ pairs_bytes w l
 -- a file entry: id, n, and the pairs by rising first block
 unfoldable pub entry_bytes : ℕ → File → List ℕ
 entry_bytes w f =
-    big_endian short_field f.id ++ (big_endian w (file_blocks f) ++ pairs_bytes w (sortBy by_first f.pieces))
+    big_endian short_field f.id ++ (big_endian w (file_blocks f) ++ pairs_bytes w (sort_by by_first f.pieces))
 
 unfoldable pub entries_bytes : ℕ → List File → List ℕ
 entries_bytes w [] = []

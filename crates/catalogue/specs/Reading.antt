@@ -10,7 +10,7 @@ use Rattle.section.specs.declared.Measured.TheVariants as Measured·
 use Rattle.section.specs.Heights.{height_of}
 use Rattle.section.specs.Limits.{greatest_disk, most_files}
 use Rattle.section.specs.Sections.{is_on_disk, length_of, shares_block}
-use Rattle.layout.specs.Lists.{sum_of, sortBy}
+use Rattle.layout.specs.Lists.{sum_of, sort_by}
 use Rattle.layout.specs.Layout.{File, Layout, all_pieces, block_count, by_length, file_blocks, free_blocks}
 use Rattle.layout.specs.Sound.{greatest_id}
 use Rattle.catalogue.specs.declared.Version.{Version}
@@ -101,7 +101,7 @@ read_pairs (suc c) w bs = then (read_pair w bs) λ s r. then (read_pairs c w r) 
 unfoldable pub file_read : ℕ → ℕ → List Section → List ℕ → Read File
 file_read i n l r =
     elim (eqb (block_count l) n && pairwise (λ (s t : Section). ltb s.first t.first) l) as (λ _. Read File) [
-      | true ↦ got (record { id = i; pieces = sortBy by_length l }) r
+      | true ↦ got (record { id = i; pieces = sort_by by_length l }) r
       | false ↦ bad
     ]
 

@@ -1,4 +1,6 @@
 // The versions of a catalogue. Its bytes are definitions and laws here, and the code over them is in crates above.
+#![tactic(auto)]
+
 ghost use Rattle.std.specs.Prelude.{◌≡◌, ◌≤◌};
 ghost use Rattle.catalogue.specs.Version.{Served, greatest_blocks, version_for};
 ghost use Rattle.section.specs.Limits.{greatest_disk};
@@ -7,7 +9,7 @@ use section::{Height, Section};
 
 // How a layout is stored: the number in the header, the bytes of a field for a number of blocks, those of the whole
 // catalogue, and how many heights there are.
-#[derive(Drop)]
+#[derive(Clone, Copy)]
 pub struct Version {
     pub number: u32,
     pub width: usize,

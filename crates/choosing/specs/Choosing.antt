@@ -3,7 +3,7 @@ use Rattle.std.specs.Prelude.{List, ◌≡◌, ℕ}
 use Rattle.section.specs.Limits.{height_count}
 use Rattle.layout.specs.Helping.{by_copies, candidates_of}
 use Rattle.layout.specs.Layout.{Layout}
-use Rattle.layout.specs.Lists.{sortBy}
+use Rattle.layout.specs.Lists.{sort_by}
 use Rattle.manager.specs.Conditions.{Outcome, first_refusal, unless_refused, which_checks}
 use Rattle.manager.specs.Outcomes.{help_for}
 use Rattle.table.specs.Tables.{layout_of}
@@ -14,7 +14,7 @@ use Rattle.choosing.specs.declared.Choices.{Choices}
 
 -- r has the files of t that let n blocks in, in their order
 pub record Chosen (t : Table) (n : ℕ) (r : Choices) : Type 0 where
-  pub list : candidates_in r ≡ sortBy by_copies (candidates_of height_count n (layout_of t) (layout_of t).files)
+  pub list : candidates_in r ≡ sort_by by_copies (candidates_of height_count n (layout_of t) (layout_of t).files)
   pub listable : Listable r
 
 -- the outcome of `which` past the catalogue, for any catalogue bytes and any disk

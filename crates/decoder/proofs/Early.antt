@@ -9,7 +9,7 @@ use lib.Count.{ones}
 use lib.Dec.{eqb, leb, ltb}
 use lib.ListN.{length}
 use borrow.Author.Tests.{le-leb}
-use Rattle.catalogue.proofs.Tests.{and_intro, each-every, every-each, test_sound}
+use Rattle.catalogue.proofs.Tests.{and_intro, each_every, every_each, test_sound}
 use Rattle.catalogue.specs.Reading.{Read, Reading, bad, every, got, is_sound, judged, pairwise, read_pairs, sound}
 use Rattle.catalogue.specs.Reading.{sound_file, sound_free, sound_piece, then, unsound}
 use Rattle.catalogue.specs.Version.{Served, greatest_blocks}
@@ -20,11 +20,11 @@ use Rattle.layout.proofs.Soundness.{free-few}
 use Rattle.decoder.proofs.Runs.{pairs_count}
 use Rattle.piece_lists.specs.Few.{piece_places}
 use Rattle.decoder.specs.Entries.{acceptable}
-use Rattle.layout.proofs.Lists.{each_and, each-imp, each_left}
+use Rattle.layout.proofs.Lists.{each_and, each_imp, each_left}
 use Rattle.layout.specs.Layout.{File, Layout, all_pieces, file_blocks, file_pieces}
 use Rattle.layout.specs.Lists.{Each, Pairwise, more, next, none, sum_of}
 use Rattle.section.proofs.Booleans.{and_true, false_and}
-use Rattle.section.proofs.Lengths.{pow-lt_inv}
+use Rattle.section.proofs.Lengths.{pow_lt_inv}
 use Rattle.section.specs.Limits.{most_files, height_count}
 use Rattle.section.specs.Sections.{length_of, shares_block}
 use Rattle.section.specs.declared.Section.{Section}
@@ -43,7 +43,7 @@ falling-few k (next {a = s} {l = l} p q) (more h e) =
     omega (
       arith,
       falling-few s.height.value q
-          (each-imp (λ t. pow-lt_inv t.height.value s.height.value) p),
+          (each_imp (λ t. pow_lt_inv t.height.value s.height.value) p),
     )
 
 files_sound : (k : ℕ) (l : Layout) → is_sound k l ≡ true → every sound_file l.files ≡ true
@@ -66,18 +66,18 @@ unfolding acceptable
 sound_acceptable k most l e =
     let s = test_sound k l e in
     let low = each_files l.files (each_left (file_pieces l.files) l.free s.heights) in
-    each-every acceptable
-    (each-imp
+    each_every acceptable
+    (each_imp
     (λ f q. and_intro (le-leb (length f.pieces) piece_places (omega (arith, falling-few k q.0.0 q.0.1)))
     q.1)
-    (each_and (each_and s.page_order low) (every-each sound_file l.files (files_sound k l e))))
+    (each_and (each_and s.page_order low) (every_each sound_file l.files (files_sound k l e))))
 
 pub acceptable_sound : (fs : List File) → every acceptable fs ≡ true → every sound_file fs ≡ true
 unfolding acceptable
 acceptable_sound fs e =
-    each-every sound_file
-    (each-imp (λ f q. (and_true (leb (length f.pieces) piece_places) (sound_file f) q).1)
-    (every-each acceptable fs e))
+    each_every sound_file
+    (each_imp (λ f q. (and_true (leb (length f.pieces) piece_places) (sound_file f) q).1)
+    (every_each acceptable fs e))
 
 -- a sound layout has few free pieces
 pub sound_free-few : (k : ℕ) → 1 ≤ k → k ≤ height_count → (l : Layout) → is_sound k l ≡ true → length

@@ -21,10 +21,10 @@ use Rattle.soundness.specs.Order.{in_order}
 use Rattle.decoder.specs.Entries.{acceptable, accepted, is_file}
 use Rattle.catalogue.specs.Encoding.{byte_values}
 use Rattle.piece_lists.specs.Few.{piece_places}
-use Rattle.layout.proofs.Lists.{length-sort, pairwise-imp, sort_sorted, sum_sort}
-use Rattle.layout.proofs.Ones.{at_most_one-distinct, distinct-at_most_one}
+use Rattle.layout.proofs.Lists.{length_sort, pairwise_imp, sort_sorted, sum_sort}
+use Rattle.layout.proofs.Ones.{at_most_one_distinct, distinct_at_most_one}
 use Rattle.layout.specs.Layout.{File, block_count, by_length, file_blocks, of_height}
-use Rattle.layout.specs.Lists.{Pairwise, sortBy}
+use Rattle.layout.specs.Lists.{Pairwise, sort_by}
 use Rattle.layout.specs.Sound.{greatest_id}
 use Rattle.section.proofs.Booleans.{and_true}
 use Rattle.section.specs.Sections.{length_of}
@@ -39,7 +39,7 @@ abbrev Unlike : Section → Section → Type 0
 Unlike s t = length_of s ≡ length_of t → ⊥
 
 by_length-sorted : (l : List Section)
-    → Pairwise (λ (s t : Section). t.height.value ≤ s.height.value) (sortBy by_length l)
+    → Pairwise (λ (s t : Section). t.height.value ≤ s.height.value) (sort_by by_length l)
 by_length-sorted =
     sort_sorted by_length (λ s t. t.height.value ≤ s.height.value)
     (λ s t. leb-true t.height.value s.height.value)
@@ -47,35 +47,35 @@ by_length-sorted =
 
 unlike_of : (l : List Section) → distinct l ≡ true → Pairwise Unlike l
 unlike_of l e =
-    pairwise-imp (λ s t q. eqb-false (length_of s) (length_of t) (not-true (eqb (length_of s) (length_of t)) q))
+    pairwise_imp (λ s t q. eqb-false (length_of s) (length_of t) (not-true (eqb (length_of s) (length_of t)) q))
     (pairwise-pairs _ l e)
 
 distinct_of : (l : List Section) → Pairwise Unlike l → distinct l ≡ true
 distinct_of l p =
-    pairs-pairwise _ (pairwise-imp (λ s t q. ap not (ne_eqb (length_of s) (length_of t) q)) p)
+    pairs-pairwise _ (pairwise_imp (λ s t q. ap not (ne_eqb (length_of s) (length_of t) q)) p)
 
 -- pairs of distinct lengths fall strictly in page order
-distinct_falls : (l : List Section) → distinct l ≡ true → falling (sortBy by_length l) ≡ true
+distinct_falls : (l : List Section) → distinct l ≡ true → falling (sort_by by_length l) ≡ true
 distinct_falls l e =
     pairs-pairwise _
-    (pairwise-imp
+    (pairwise_imp
     (λ s t w. lt-ltb (length_of t) (length_of s)
     (omega (arith, pow_mono {i = t.height.value} {j = s.height.value} w.0, w.1)))
-    (pairwise_and (by_length-sorted l) (at_most_one-distinct (sortBy by_length l) thin)))
+    (pairwise_and (by_length-sorted l) (at_most_one_distinct (sort_by by_length l) thin)))
   where
-    thin : AtMostOne (sortBy by_length l)
-    thin h = omega (arith, distinct-at_most_one (unlike_of l e) h, sum_sort (of_height h) by_length l)
+    thin : AtMostOne (sort_by by_length l)
+    thin h = omega (arith, distinct_at_most_one (unlike_of l e) h, sum_sort (of_height h) by_length l)
 
-falls_distinct : (l : List Section) → falling (sortBy by_length l) ≡ true → distinct l ≡ true
-falls_distinct l e = distinct_of l (at_most_one-distinct l thin)
+falls_distinct : (l : List Section) → falling (sort_by by_length l) ≡ true → distinct l ≡ true
+falls_distinct l e = distinct_of l (at_most_one_distinct l thin)
   where
-    unlike : Pairwise Unlike (sortBy by_length l)
+    unlike : Pairwise Unlike (sort_by by_length l)
     unlike =
-        pairwise-imp (λ s t q z. omega (arith, ltb-true (length_of t) (length_of s) q, z))
-        (pairwise-pairs _ (sortBy by_length l) e)
+        pairwise_imp (λ s t q z. omega (arith, ltb-true (length_of t) (length_of s) q, z))
+        (pairwise-pairs _ (sort_by by_length l) e)
 
     thin : AtMostOne l
-    thin h = omega (arith, distinct-at_most_one unlike h, sum_sort (of_height h) by_length l)
+    thin h = omega (arith, distinct_at_most_one unlike h, sum_sort (of_height h) by_length l)
 
 -- ---- a file
 
@@ -89,13 +89,13 @@ file_parts i n l e =
 
 module _ (i n : ℕ) (l : List Section) (r : List ℕ) where
   abbrev made : File
-  made = record { id = i; pieces = sortBy by_length l }
+  made = record { id = i; pieces = sort_by by_length l }
 
   blocks-made : file_blocks made ≡ block_count l
   blocks-made = sum_sort length_of by_length l
 
-  size_made : length (sortBy by_length l) ≡ length l
-  size_made = length-sort by_length l
+  size_made : length (sort_by by_length l) ≡ length l
+  size_made = length_sort by_length l
 
   acceptable-few : acceptable made ≡ true → length l ≤ piece_places
   unfolding acceptable

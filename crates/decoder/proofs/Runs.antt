@@ -27,9 +27,9 @@ use Rattle.piece_lists.specs.Few.{list_of, piece_places}
 abbrev pub read_after : {A : Type 0} → List A → Read (List A) → Read (List A)
 read_after acc x = then x λ l r. got (acc ++ l) r
 
-pub sum-pushed {ℓ} : {A : Type ℓ} (w : A → ℕ) (p : List A) (m : ℕ) (a : A) → m < length p
+pub sum_pushed {ℓ} : {A : Type ℓ} (w : A → ℕ) (p : List A) (m : ℕ) (a : A) → m < length p
     → sum_of w (take (m + 1) (set p m a)) ≡ sum_of w (take m p) + w a
-sum-pushed w p m a h =
+sum_pushed w p m a h =
     ap (sum_of w) (pushed p m a h) ∙ (sum-append w (take m p) (a ∷ []) ∙ (omega arith))
 
 pub after_none : {A : Type 0} (x : Read (List A)) → read_after [] x ≡ x
@@ -128,13 +128,13 @@ no_pairs-at w s at n p e k =
       inside = λ t. absurd (let z : ◌≡◌ {A = ℕ} 0 1 = cc (t, k.0) in omega arith);
     }
 
-pub some_pairs-at : (w : ℕ) (s : List ℕ) (at n sum end : ℕ) (items : List Piece)
+pub some_pairs_at : (w : ℕ) (s : List ℕ) (at n sum end : ℕ) (items : List Piece)
     → PairsLeft w n (drop at s) ≡ got (take n (seen items)) (drop end s)
     → sum ≡ block_count (take n (seen items)) → sum ≤ greatest_disk * n → n ≤ piece_places → n ≤ length items
     → end ≤ length s
     → PairsAt w s at n (record { ok = true; sum = sum; end = end; list = record { count = n; items = items } })
 unfolding pairs_in list_of
-some_pairs-at w s at n sum end items e q m h k l =
+some_pairs_at w s at n sum end items e q m h k l =
     record {
       meaning = e;
       equal = q;

@@ -16,7 +16,7 @@ use Rattle.decoder.proofs.Filled.{FilesAt, filled-end, filled-sum}
 use Rattle.soundness.proofs.Joined.{files_to}
 use Rattle.soundness.proofs.Points.{false_true}
 use Rattle.decoder.proofs.Runs.{pairs_bad, pairs_got}
-use Rattle.decoder.proofs.Whole.{bad_free, got_layout, got_sound, many_free-pairs}
+use Rattle.decoder.proofs.Whole.{bad_free, got_layout, got_sound, many_free_pairs}
 use Rattle.decoder.specs.Fields.{PairsAt, pairs_in}
 use Rattle.soundness.specs.Counts.{Exact}
 use Rattle.decoder.specs.Loading.{HeaderAt, TableAt}
@@ -56,7 +56,7 @@ module _ (v : Version) (ser : Served v) (s : List ℕ) (b k : ℕ) (h : HeaderAt
 
   pub unread_many : piece_places < ones n → read_catalogue v s ≡ unsound
   unread_many l =
-      many_free-pairs v ser s b k h (files_to k files) (drop at s) all-files (omega (arith, ap ones free-blocks))
+      many_free_pairs v ser s b k h (files_to k files) (drop at s) all-files (omega (arith, ap ones free-blocks))
 
   module _ (x : PairsRead) (z : PairsAt v.width s at (ones n) x) where
     free-pairs : read_pairs (ones (b - sum_of file_blocks (files_to k files))) v.width (drop at s)

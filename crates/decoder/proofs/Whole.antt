@@ -94,9 +94,9 @@ module _ (v : Version) where
       pub got_sound : every sound_file fs ≡ true
       got_sound = acceptable_sound fs (all_read entries fs r e).1
 
-      pub many_free-pairs : piece_places < ones (b - sum_of file_blocks fs) → read_catalogue v s ≡ unsound
+      pub many_free_pairs : piece_places < ones (b - sum_of file_blocks fs) → read_catalogue v s ≡ unsound
       unfolding read_catalogue
-      many_free-pairs h = ap (judged v) files_got ∙ many_free v z b fs r h
+      many_free_pairs h = ap (judged v) files_got ∙ many_free v z b fs r h
 
       pub bad_free : read_pairs (ones (b - sum_of file_blocks fs)) v.width r ≡ bad → read_catalogue v s ≡ unsound
       unfolding read_catalogue judged

@@ -1,4 +1,6 @@
 // The bytes of a catalogue: a table is read from them, and refused unless it is sound.
+#![tactic(auto)]
+
 ghost use Rattle.std.specs.Prelude.{◌≡◌, length};
 ghost use Rattle.catalogue.specs.Version.{Served};
 ghost use Rattle.catalogue.specs.Reading.{read_catalogue};
@@ -19,7 +21,7 @@ pub mod tables;
 pub mod zeros;
 
 // A pair, if there is one: the piece and its length.
-#[derive(Drop)]
+#[derive(Clone, Copy)]
 pub struct PairRead {
     pub ok: bool,
     pub length: u32,
@@ -27,7 +29,7 @@ pub struct PairRead {
 }
 
 // Pairs in the order of the bytes, if all of them were read, the sum of their lengths, and the place after them.
-#[derive(Drop)]
+#[derive(Clone, Copy)]
 pub struct PairsRead {
     pub ok: bool,
     pub sum: u32,
@@ -36,7 +38,7 @@ pub struct PairsRead {
 }
 
 // A file's entry, if it is one that a sound layout can have: its blocks n, its bytes, and the file.
-#[derive(Drop)]
+#[derive(Clone, Copy)]
 pub struct EntryRead {
     pub ok: bool,
     pub n: u32,
@@ -45,7 +47,7 @@ pub struct EntryRead {
 }
 
 // The table of the catalogue, if it was read: the blocks of its files and of its free pieces, and where it ends.
-#[derive(Drop)]
+#[derive(Clone, Copy)]
 pub struct TableRead {
     pub ok: bool,
     pub sum: u32,
@@ -55,7 +57,7 @@ pub struct TableRead {
 }
 
 // A table that is sound, or none.
-#[derive(Drop)]
+#[derive(Clone, Copy)]
 pub struct Loaded {
     pub sound: bool,
     pub table: Table,

@@ -4,9 +4,9 @@ use mathlib.Core.Path.{◌∙◌, ◌≡◌, ap₂, subst, sym}
 use Prim.Native.Nat.{ℕ}
 use Rattle.section.specs.Sections.{length_of}
 use Rattle.section.specs.declared.Section.{Section}
-use Rattle.layout.proofs.Lists.{each-sort}
+use Rattle.layout.proofs.Lists.{each_sort}
 use Rattle.layout.specs.Layout.{by_first, file_blocks}
-use Rattle.layout.specs.Lists.{Each, sortBy}
+use Rattle.layout.specs.Lists.{Each, sort_by}
 use Rattle.piece_lists.specs.Few.{ListsFew, list_of}
 use Rattle.table.specs.Tables.{file_of, pieces_in}
 use Rattle.table.specs.declared.Entry.{Entry}
@@ -29,7 +29,7 @@ pair_written w s n {a = a} {b = b} {c = c} {at = at} {q = q} {r = r} e x y =
 -- ---- an entry, from its blocks and its sorted pieces
 
 module _ (w : ℕ) (e : Entry) (n : ℕ) (blocks : n ≡ file_blocks (file_of e)) (s : Pieces)
-    (sorted : ListsFew e.pieces.count (sortBy by_first (pieces_in e)) s) where
+    (sorted : ListsFew e.pieces.count (sort_by by_first (pieces_in e)) s) where
   pub entry_parts : entry_bytes w (file_of e)
       ≡ big_endian short_field e.id ++ (big_endian w n ++ pairs_bytes w (list_of s))
   entry_parts =
@@ -38,21 +38,21 @@ module _ (w : ℕ) (e : Entry) (n : ℕ) (blocks : n ≡ file_blocks (file_of e)
       (sym sorted.list)
 
   pub sorted-low : LowEntry e → Each Low (list_of s)
-  sorted-low h = subst (Each Low) (sym sorted.list) (each-sort by_first h.low)
+  sorted-low h = subst (Each Low) (sym sorted.list) (each_sort by_first h.low)
 
 -- an entry's id has room
 pub entry-room : (w : ℕ) (e : Entry) (cat : List ℕ) (at : ℕ) → Room cat at (entry_bytes w (file_of e))
     → Room cat at (big_endian short_field e.id)
 entry-room w e cat at h =
     room_left cat (big_endian short_field e.id)
-    (big_endian w (file_blocks (file_of e)) ++ pairs_bytes w (sortBy by_first (pieces_in e)))
+    (big_endian w (file_blocks (file_of e)) ++ pairs_bytes w (sort_by by_first (pieces_in e)))
     at (subst (Room cat at) (entry_bytes_parts w (file_of e)) h)
 
 -- and its blocks and pairs, once that is written
 pub entry-room-rest : (w : ℕ) (e : Entry) {cat after : List ℕ} {at r : ℕ} → Room cat at (entry_bytes w (file_of e))
     → Written cat at (big_endian short_field e.id) after r
-    → Room after r (big_endian w (file_blocks (file_of e)) ++ pairs_bytes w (sortBy by_first (pieces_in e)))
+    → Room after r (big_endian w (file_blocks (file_of e)) ++ pairs_bytes w (sort_by by_first (pieces_in e)))
 entry-room-rest w e {cat = cat} {at = at} h x =
     room_right (big_endian short_field e.id)
-    (big_endian w (file_blocks (file_of e)) ++ pairs_bytes w (sortBy by_first (pieces_in e)))
+    (big_endian w (file_blocks (file_of e)) ++ pairs_bytes w (sort_by by_first (pieces_in e)))
     x (subst (Room cat at) (entry_bytes_parts w (file_of e)) h)

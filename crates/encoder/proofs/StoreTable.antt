@@ -6,7 +6,7 @@ use native.Mathlib.Omega.{arith}
 use lib.ListN.{length, length-append, replicate, take}
 use Rattle.section.specs.Limits.{height_count, most_files}
 use Rattle.section.specs.declared.Section.{Section}
-use Rattle.layout.proofs.Lists.{each-imp}
+use Rattle.layout.proofs.Lists.{each_imp}
 use Rattle.layout.specs.Layout.{Layout, file_pieces}
 use Rattle.layout.specs.Lists.{Each}
 use Rattle.layout.specs.Sound.{Sound}
@@ -90,7 +90,7 @@ module _ (v : Version) (known : OneOf v versions) (y : Layout) (n : ℕ) (count 
 -- the heights of the free pieces have lengths
 pub fresh-low : (k : ℕ) → k ≤ height_count → (n : ℕ) (l : List Section) → Sound k (no_files n l) → Each Low l
 unfolding file_pieces
-fresh-low k most n l sound = each-imp (λ (s : Section) (h : s.height.value < k). omega arith) sound.heights
+fresh-low k most n l sound = each_imp (λ (s : Section) (h : s.height.value < k). omega arith) sound.heights
 
 -- and no entry is written
 pub no_entries : (w : ℕ) (cat : List ℕ) (at : ℕ) → Written cat at (entries_bytes w []) cat at

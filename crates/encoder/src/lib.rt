@@ -1,4 +1,6 @@
 // The bytes of a catalogue, from a table and back.
+#![tactic(auto)]
+
 mod storing;
 
 pub use storing::{store, store_fresh};

@@ -46,9 +46,9 @@ code_claims c cat d b r a = (
 
 -- a removal that gives back n: n is the number of copies of the definition, and at most the carries of f + n over the
 -- 21 heights
-pub code-removal_claims : (i n : ℕ) (cat d : List ℕ) (b : Book) (r : Returned) → CodeAgrees (remove i) cat d b r
+pub code_removal_claims : (i n : ℕ) (cat d : List ℕ) (b : Book) (r : Returned) → CodeAgrees (remove i) cat d b r
     → r.code ≡ pos n → CopiesClaimed i n cat b
-code-removal_claims i n cat d b r a e = (λ l f. a.copies i n l f refl e, λ x. a.limit i n x refl e)
+code_removal_claims i n cat d b r a e = (λ l f. a.copies i n l f refl e, λ x. a.limit i n x refl e)
 
 -- and so does a replacement, n being that of the file that goes
 pub code_replacement_claims : (i n : ℕ) (bs cat d : List ℕ) (b : Book) (r : Returned)
@@ -57,9 +57,9 @@ code_replacement_claims i n bs cat d b r a e = (λ l f. a.copies i n l f refl e,
 
 -- breaks that give back n: the pages of the file, in the blocks of its pieces in page order, at which the one before is
 -- not in the block right before; and at most the ones of the file's blocks less one
-pub code-breaks_claims : (i n : ℕ) (cat d : List ℕ) (b : Book) (r : Returned) → CodeAgrees (breaks i) cat d b r
+pub code_breaks_claims : (i n : ℕ) (cat d : List ℕ) (b : Book) (r : Returned) → CodeAgrees (breaks i) cat d b r
     → r.code ≡ pos n → BreaksClaimed i n cat b
-code-breaks_claims i n cat d b r a e = (
+code_breaks_claims i n cat d b r a e = (
   λ l f w there. a.breaks_answer i n l f refl e w there ∙ breaks-at-pages f.pieces,
   λ x. a.breaks_limit i n x refl e,
 )
@@ -73,8 +73,8 @@ pub each_code_claimed : (v : Version) (c : ExportedCall) (cs : List ExportedCall
     × CodesFollow v cs c.gave.catalogue c.gave.disk (in_book c.listed.call b).book
 each_code_claimed v c cs cat d b f = f
 
-pub code-end_claimed : (v : Version) (cat d : List ℕ) (b : Book) → CodesFollow v [] cat d b → Afterwards v cat d b
-code-end_claimed v cat d b f = f
+pub code_end_claimed : (v : Version) (cat d : List ℕ) (b : Book) → CodesFollow v [] cat d b → Afterwards v cat d b
+code_end_claimed v cat d b f = f
 
 -- ---- whatever the bytes
 

@@ -23,8 +23,8 @@ module _ (n : ℕ) (o cat d : List ℕ) (b : Book) (r : Returned) (a : CodeAgree
   refused_listless : (m : ℕ) → book_which n o b ≡ book_refuses m b o → (r.code ≡ neg_ℤ (pos m)) × (r.output ≡ o)
   refused_listless m e = let x = agreed (book_refuses m b o) e in (x.0.1, x.1)
 
-  pub code-which_claims : WhichGivesBack n o cat b r
-  code-which_claims = record {
+  pub code_which_claims : WhichGivesBack n o cat b r
+  code_which_claims = record {
     none = λ e. refused_listless 8 (book_none n o b e);
     places = λ some e. refused_listless 14 (book_places n o b some e);
     fitting = λ some places h. agreed (zeros n o b) (book_fits n o b some places h);

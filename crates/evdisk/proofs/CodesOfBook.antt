@@ -11,24 +11,24 @@ use Rattle.evdisk.specs.Codes.{code_of, fits_number}
 use Rattle.evdisk.specs.ExportedList.{AltersBy, CodeOfBook}
 
 -- the number of a reply that agrees with the book is the one that the book asks for
-pub code-of_book : (y : Reply) (s : BookReply) → ((n : ℕ) → s ≡ refuses n → 1 ≤ n)
+pub code_of_book : (y : Reply) (s : BookReply) → ((n : ℕ) → s ≡ refuses n → 1 ≤ n)
     → ((m n : ℕ) → y ≡ answered m → s ≡ in_any_order n → m ≤ most_lines) → RepliesAgree y s → (r : ℤ) → r ≡ code_of y
     → CodeOfBook s r
-code-of_book (refused m) (refuses k) some few e r q = (some k refl, q ∙ ap (λ z. neg_ℤ (pos z)) e)
-code-of_book (answered m) (answers k) some few e r q = q ∙ ap pos e
-code-of_book (answered m) any_number some few e r q = (m, q)
-code-of_book (answered m) (in_any_order k) some few e r q = (omega (arith, e, few m k refl refl), q ∙ ap pos e)
-code-of_book fits_already fits some few e r q = q
-code-of_book (refused m) (answers k) some few e r q = absurd e
-code-of_book (refused m) any_number some few e r q = absurd e
-code-of_book (refused m) (in_any_order k) some few e r q = absurd e
-code-of_book (refused m) fits some few e r q = absurd e
-code-of_book (answered m) (refuses k) some few e r q = absurd e
-code-of_book (answered m) fits some few e r q = absurd e
-code-of_book fits_already (refuses k) some few e r q = absurd e
-code-of_book fits_already (answers k) some few e r q = absurd e
-code-of_book fits_already any_number some few e r q = absurd e
-code-of_book fits_already (in_any_order k) some few e r q = absurd e
+code_of_book (refused m) (refuses k) some few e r q = (some k refl, q ∙ ap (λ z. neg_ℤ (pos z)) e)
+code_of_book (answered m) (answers k) some few e r q = q ∙ ap pos e
+code_of_book (answered m) any_number some few e r q = (m, q)
+code_of_book (answered m) (in_any_order k) some few e r q = (omega (arith, e, few m k refl refl), q ∙ ap pos e)
+code_of_book fits_already fits some few e r q = q
+code_of_book (refused m) (answers k) some few e r q = absurd e
+code_of_book (refused m) any_number some few e r q = absurd e
+code_of_book (refused m) (in_any_order k) some few e r q = absurd e
+code_of_book (refused m) fits some few e r q = absurd e
+code_of_book (answered m) (refuses k) some few e r q = absurd e
+code_of_book (answered m) fits some few e r q = absurd e
+code_of_book fits_already (refuses k) some few e r q = absurd e
+code_of_book fits_already (answers k) some few e r q = absurd e
+code_of_book fits_already any_number some few e r q = absurd e
+code_of_book fits_already (in_any_order k) some few e r q = absurd e
 
 -- what alters anything by its reply does so by its number
 pub alters_by : (c : Call) (y : Reply) (r : ℤ) → r ≡ code_of y → Alters c y → AltersBy c r

@@ -10,8 +10,8 @@ use lib.ListN.{drop, take}
 use Rattle.catalogue.specs.declared.Version.{Version}
 use Rattle.layout.specs.Helping.{InCopyOrder}
 use Rattle.manager.proofs.FormatAnswered.{format_answered}
-use Rattle.manager.proofs.FormatRefusals.{format-lowest_refusal}
-use Rattle.manager.proofs.OnlyWhich.{Ordered, format_never_fits, only_which_fits, ordered_or-which}
+use Rattle.manager.proofs.FormatRefusals.{format_lowest_refusal}
+use Rattle.manager.proofs.OnlyWhich.{Ordered, format_never_fits, only_which_fits, ordered_or_which}
 use Rattle.manager.proofs.RefusalNumbers.{book_refusal_numbers, refusal_numbers}
 use Rattle.manager.proofs.Refusals.{format_refused_changes_nothing, refused_changes_nothing}
 use Rattle.manager.proofs.Untouched.{format_keeps_disk}
@@ -25,7 +25,7 @@ use Rattle.manager.specs.Outcomes.{format_outcome, perform}
 use Rattle.manager.specs.WholeList.{Alters, CallAgrees, Follows, OutputsAgree, RightLengths, Strikes}
 use Rattle.section.specs.Limits.{height_count, most_files}
 use Rattle.evdisk.proofs.CodesApart.{code-answer}
-use Rattle.evdisk.proofs.CodesOfBook.{alters_by, code-of_book}
+use Rattle.evdisk.proofs.CodesOfBook.{alters_by, code_of_book}
 use Rattle.evdisk.proofs.Within.{breaks-apart}
 use Rattle.evdisk.specs.Codes.{code_of, fits_number}
 use Rattle.evdisk.specs.ExportedList.{AltersBy, AsPromised, CodeAgrees, CodesFollow, ExportedCall}
@@ -52,7 +52,7 @@ module _ (c : Call) (cat d : List ℕ) (r : Returned) (p : AsPromised (perform c
 
   few-counted : (b : Book) (m n : ℕ) → (perform c cat d).reply ≡ answered m → (in_book c b).reply ≡ in_any_order n
       → m ≤ most_lines
-  few-counted b m n e q = go (ordered_or-which c b)
+  few-counted b m n e q = go (ordered_or_which c b)
     where
       go : Ordered (in_book c b).reply ⊎ Asking c → m ≤ most_lines
       go (inl x) = absurd (subst Ordered q x)
@@ -62,7 +62,7 @@ module _ (c : Call) (cat d : List ℕ) (r : Returned) (p : AsPromised (perform c
   code_agrees : (b : Book) → CallAgrees c cat d b → CodeAgrees c cat d b r
   code_agrees b a = record {
     code =
-        code-of_book (perform c cat d).reply (in_book c b).reply (λ n e. (book_refusal_numbers c b n e).0)
+        code_of_book (perform c cat d).reply (in_book c b).reply (λ n e. (book_refusal_numbers c b n e).0)
         (few-counted b) a.reply r.code p.answer;
     output =
         subst (λ z. OutputsAgree (in_book c b).reply z (in_book c b).output) (sym p.output) a.output;
@@ -124,7 +124,7 @@ module _ (cat d : List ℕ) (r : Returned) (p : AsPromised (format_outcome cat d
       one n (inr q) = omega (arith, q)
 
       some : (n : ℕ) → (format_outcome cat d).reply ≡ refused n → 1 ≤ n
-      some n q = one n ((format-lowest_refusal cat d).no_other n q)
+      some n q = one n ((format_lowest_refusal cat d).no_other n q)
 
   format-kept : ((n : ℕ) → r.code ≡ pos n → ⊥) → r.catalogue ≡ cat
   format-kept below = go (format_outcome cat d).reply refl

@@ -1,5 +1,7 @@
 // The nine calls on a lent catalogue and a lent disk: whatever the buffers and numbers, an answer or a named
 // refusal.
+#![tactic(auto)]
+
 mod catalogues;
 mod changing;
 mod formatting;
@@ -13,7 +15,7 @@ pub use reading::{breaks, check, free, read, which};
 use table::Table;
 
 // The table of a catalogue, if it could be entered, or the refusal; and its version.
-#[derive(Drop)]
+#[derive(Clone, Copy)]
 pub struct Opening {
     pub entered: bool,
     pub refusal: Answer,

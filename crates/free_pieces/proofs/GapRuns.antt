@@ -14,7 +14,7 @@ use Rattle.layout.specs.Layout.{InOrder, holds_block}
 use Rattle.layout.specs.Lists.{Each, done, more, next, sum_of}
 use Rattle.layout.specs.Removing.{Copy, copies_from, copy_run}
 use Rattle.layout.proofs.CopiesFrom.{from_append, from_failed, from_none, from_passed}
-use Rattle.layout.proofs.Lists.{each-imp}
+use Rattle.layout.proofs.Lists.{each_imp}
 use Rattle.layout.proofs.Moving.{placed_off}
 use Rattle.layout.proofs.Ranges.{in_range_above, in_range_below, in_range_inside}
 use Rattle.free_pieces.specs.Gaps.{gap_copies}
@@ -109,7 +109,7 @@ module _ (p : ℕ → Bool) where
             (omega (
               arith,
               in_range_below (at + i) s.first (length_of s) (omega arith),
-              sum-none (at + i) (each-imp (λ r f. in_range_below (at + i) r.first (length_of r) (omega arith)) o),
+              sum-none (at + i) (each_imp (λ r f. in_range_below (at + i) r.first (length_of r) (omega arith)) o),
             )))
             (λ i q. t (at + (s.first - at) + i) (omega arith) (omega arith)
             ∙ ne_eqb (sum_of (holds_block (at + (s.first - at) + i)) (s ∷ l)) 0
@@ -120,7 +120,7 @@ module _ (p : ℕ → Bool) where
             )))
             ∙ ap (λ (k : List Copy). copy_run at (u + (at - b.first)) (s.first - at) ++ k)
             (ap₂ (λ i j. copies_from p (copy_run i j (end_of b - end_of s))) y y'
-            ∙ ih (end_of s) (omega arith) (omega arith) (each-imp (λ r f _. f) o)
+            ∙ ih (end_of s) (omega arith) (omega arith) (each_imp (λ r f _. f) o)
             (λ r lx hx.
             let y : sum_of (holds_block r) (s ∷ l) ≡ sum_of (holds_block r) l =
             omega (arith, in_range_above r s.first (length_of s) lx) in

@@ -12,7 +12,7 @@ use Rattle.section.specs.Sections.{Addressable, buddy_of, end_of, is_inside, sec
 use Rattle.section.proofs.Answers.{inside_iff}
 use Rattle.layout.specs.Lists.{Each, next}
 use Rattle.layout.specs.Removing.{copy_run}
-use Rattle.layout.proofs.Lists.{each_all, each-head, each-imp, each_tail}
+use Rattle.layout.proofs.Lists.{each_all, each_head, each_imp, each_tail}
 use Rattle.layout.proofs.MergeKeeps.{length-copy_run}
 use Rattle.piece.specs.Packed.{no_piece, section_in, seen}
 use Rattle.piece.specs.declared.Piece.{Piece}
@@ -53,13 +53,13 @@ module _ (b : Section) (at : ℕ) (s : Section) (l : List Section) (g : GapsLeft
       → (at + cond v (s.first - at) 0 ≤ cond v (end_of s) at) × (cond v (end_of s) at ≤ end_of b)
   past_bounds true e =
       let w = (inside_iff s b).0 e in
-      let a : at ≤ s.first = each-head g.ahead e in
+      let a : at ≤ s.first = each_head g.ahead e in
       (omega arith, omega arith)
   past_bounds false e = (omega arith, omega (arith, g.high))
 
   past_ahead : (v : Bool) → is_inside s b ≡ v
       → Each (λ (t : Section). is_inside t b ≡ true → cond v (end_of s) at ≤ t.first) l
-  past_ahead true e = each-imp (λ t o _. o) (pairwise_head g.order)
+  past_ahead true e = each_imp (λ t o _. o) (pairwise_head g.order)
   past_ahead false e = each_tail g.ahead
 
   past_left : GapsLeft b (gap_past b at s) l
@@ -89,7 +89,7 @@ module _ (b : Section) (items : List Piece) (m j at : ℕ) (s : Section) (hm : m
   here = subst (GapsLeft b at) cut g
 
   gap_asks : Addressable s × (is_inside s b ≡ true → at ≤ s.first)
-  gap_asks = (each-head here.served, each-head here.ahead)
+  gap_asks = (each_head here.served, each_head here.ahead)
 
   module _ (r : Gap) (e : Gaps b at s r) where
     -- it ends within the section

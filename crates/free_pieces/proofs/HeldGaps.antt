@@ -7,7 +7,7 @@ use Prim.Native.Nat.{◌+◌, ◌-◌, ◌<◌, ◌≤◌, suc, zero, ℕ}
 use native.Mathlib.Omega.{arith}
 use lib.Dec.{eqb, ltb}
 use borrow.Author.Tests.{eqb-false, le-ltb, lt-ltb, ne_eqb}
-use Rattle.layout.proofs.Lists.{each_all, each-imp, each_right, sum-append}
+use Rattle.layout.proofs.Lists.{each_all, each_imp, each_right, sum-append}
 use Rattle.layout.proofs.MergeParts.{buddy-block}
 use Rattle.layout.proofs.Ranges.{in_range-le-one}
 use Rattle.layout.specs.Covering.{Rising}
@@ -23,9 +23,9 @@ use Rattle.layout.specs.Layout.{InOrder}
 use Rattle.layout.specs.Moves.{MergeParts}
 use Rattle.free_pieces.specs.Gaps.{free_copies, gap_copies}
 
-one-or_other : (f k : ℕ) → f + k ≡ 1 → ltb 0 f ≡ eqb k 0
-one-or_other f zero e = lt-ltb 0 f (omega arith)
-one-or_other f (suc k) e = le-ltb 0 f (omega arith) ∙ sym (ne_eqb (suc k) 0 (λ z. omega arith))
+one_or_other : (f k : ℕ) → f + k ≡ 1 → ltb 0 f ≡ eqb k 0
+one_or_other f zero e = lt-ltb 0 f (omega arith)
+one_or_other f (suc k) e = le-ltb 0 f (omega arith) ∙ sym (ne_eqb (suc k) 0 (λ z. omega arith))
 
 module _ (c : ℕ) (w : Layout) (l u : Section) (r : List Section) (q : MergeParts c w l u r) (rise : Rising r) where
   -- the other free pieces end each before the next
@@ -40,10 +40,10 @@ module _ (c : ℕ) (w : Layout) (l u : Section) (r : List Section) (q : MergePar
       ))
 
   -- a block of the buddy is held by a file, or by a free piece other than the two
-  held_or-free : ((buddy_of l).first ≡ u.first → ⊥) → (x : ℕ) → (buddy_of l).first ≤ x → x < end_of (buddy_of l)
+  held_or_free : ((buddy_of l).first ≡ u.first → ⊥) → (x : ℕ) → (buddy_of l).first ≤ x → x < end_of (buddy_of l)
       → is_held w.files x ≡ eqb (sum_of (holds_block x) r) 0
-  held_or-free ne x lo hi =
-      one-or_other (sum_of (holds_block x) (file_pieces w.files)) (sum_of (holds_block x) r)
+  held_or_free ne x lo hi =
+      one_or_other (sum_of (holds_block x) (file_pieces w.files)) (sum_of (holds_block x) r)
       (buddy-block c w l u r q ne x lo hi)
 
   -- the copies of the merge are those of the runs between the free pieces
@@ -63,6 +63,6 @@ module _ (c : ℕ) (w : Layout) (l u : Section) (r : List Section) (q : MergePar
       go false e =
           ap₂ (λ i j. copies_from (is_held w.files) (copy_run (buddy_of l).first i j)) start size
           ∙ gaps_are (is_held w.files) (buddy_of l) u.first (buddy_of l).first r (omega arith) (omega arith)
-          others_in_order (each-imp (λ s m. m.0) (each_right (file_pieces w.files) r q.movable))
+          others_in_order (each_imp (λ s m. m.0) (each_right (file_pieces w.files) r q.movable))
           (each_all r (λ s i. ((inside_iff s (buddy_of l)).0 i).0))
-          (held_or-free (eqb-false (buddy_of l).first u.first e))
+          (held_or_free (eqb-false (buddy_of l).first u.first e))

@@ -8,14 +8,14 @@ use native.Mathlib.Omega.{arith}
 use lib.Count.{ones-le}
 use lib.ListN.{length}
 use Rattle.layout.proofs.Allocating.{height-lt}
-use Rattle.layout.proofs.Lists.{each-imp}
-use Rattle.layout.proofs.Ones.{at_most_one-ones}
-use Rattle.layout.proofs.Splitting.{TakesPiece, TakesPieceOf, at_most_one-small, take_piece_is}
-use Rattle.layout.proofs.Taking.{take_piece_highest, take_piece-or_split}
+use Rattle.layout.proofs.Lists.{each_imp}
+use Rattle.layout.proofs.Ones.{at_most_one_ones}
+use Rattle.layout.proofs.Splitting.{TakesPiece, TakesPieceOf, at_most_one_small, take_piece_is}
+use Rattle.layout.proofs.Taking.{take_piece_highest, take_piece_or_split}
 use Rattle.layout.specs.Adding.{Taken, nothing, or_else, split_at, take_of_height, take_piece, taken}
 use Rattle.layout.specs.Allocations.{Stock}
 use Rattle.layout.specs.Layout.{by_first}
-use Rattle.layout.specs.Lists.{insertBy, sum_of}
+use Rattle.layout.specs.Lists.{insert_by, sum_of}
 use Rattle.section.specs.Limits.{greatest_disk, greatest_height, height_count}
 use Rattle.section.specs.Sections.{length_of, section}
 use Rattle.section.specs.declared.Section.{Section}
@@ -48,7 +48,7 @@ take_piece-or zero h free =
     go (taken s r) = refl
     go nothing = refl
 take_piece-or (suc k) h free =
-    take_piece-or_split k h free ∙ ap (or_else (take_of_height h free)) (sym (split_piece_below k h free))
+    take_piece_or_split k h free ∙ ap (or_else (take_of_height h free)) (sym (split_piece_below k h free))
 
 pub taken_here : (k h : ℕ) (free : List Section) (d : Drawn) → taken_of d ≡ take_of_height h free → d.found ≡ true
     → taken_of d ≡ take_piece k h free
@@ -93,9 +93,9 @@ stock_of s = record { disk = s.disk; rising = s.rising; thin = s.distinct }
 pub stock_few : {l : List Section} → Stock greatest_disk l → length l ≤ height_count
 stock_few {l} s =
     let low : sum_of length_of l < 2 ^ height_count =
-    at_most_one-small greatest_disk height_count
-    (each-imp (λ a d. height-lt greatest_disk height_count (omega arith) a d) s.disk) s.thin in
-    omega (arith, at_most_one-ones l s.thin, ones-le height_count (sum_of length_of l) low)
+    at_most_one_small greatest_disk height_count
+    (each_imp (λ a d. height-lt greatest_disk height_count (omega arith) a d) s.disk) s.thin in
+    omega (arith, at_most_one_ones l s.thin, ones-le height_count (sum_of length_of l) low)
 
 -- what was taken is on the disk, and what is left is stock
 pub took : (k h : ℕ) (free : Free) (d : Drawn) → Stocked free → taken_of d ≡ take_piece k h (free_of free)
@@ -119,7 +119,7 @@ to_halve k h free d l s e f x =
 
 pub halved_is : (h : ℕ) (d : Drawn) → d.found ≡ true
     → taken (section (section_in d.piece).first h)
-    (insertBy by_first (section ((section_in d.piece).first + 2 ^ h) h) (free_of d.rest))
+    (insert_by by_first (section ((section_in d.piece).first + 2 ^ h) h) (free_of d.rest))
     ≡ split_at h (taken_of d)
 halved_is h d e = ap (split_at h) (sym (drawn_there d e))
 

@@ -1,6 +1,8 @@
 // The free pieces of a layout as a value: one more, one taken, one split, the two to merge, the pieces of a new file.
 //
 // A list is the first `count` items of an array, so each value stands for one list of the definitions.
+#![tactic(auto)]
+
 use piece::Piece;
 use piece_lists::Pieces;
 use section::Section;
@@ -17,7 +19,7 @@ pub use gaps::gap_before;
 pub use taking::take_piece;
 
 // The free pieces by rising first block. Between a release and its merges there are more than a sound layout has.
-#[derive(Drop)]
+#[derive(Clone, Copy)]
 pub struct Free {
     pub count: usize,
     pub items: [Piece; Free::PLACES],
@@ -29,7 +31,7 @@ impl Free {
 }
 
 // A piece that was taken and the pieces that are left, if one was found.
-#[derive(Drop)]
+#[derive(Clone, Copy)]
 pub struct Drawn {
     pub found: bool,
     pub piece: Piece,
@@ -37,7 +39,7 @@ pub struct Drawn {
 }
 
 // The two free sections to merge and the other free pieces, if a height has two.
-#[derive(Drop)]
+#[derive(Clone, Copy)]
 pub struct Pair {
     pub found: bool,
     pub lower: Section,
@@ -46,14 +48,14 @@ pub struct Pair {
 }
 
 // A run of blocks up to a free piece, and the block from which on to look for the next.
-#[derive(Drop)]
+#[derive(Clone, Copy)]
 pub struct Gap {
     pub count: u32,
     pub past: u32,
 }
 
 // The pieces of a new file in page order and the free pieces that are left, if there were enough.
-#[derive(Drop)]
+#[derive(Clone, Copy)]
 pub struct Laid {
     pub ok: bool,
     pub pieces: Pieces,

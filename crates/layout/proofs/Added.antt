@@ -10,14 +10,14 @@ use lib.ListN.{length}
 use borrow.Author.Tests.{leb-false, leb-true}
 use Rattle.layout.proofs.Allocating.{AllocatesOf, allocate_is}
 use Rattle.layout.proofs.Finding.{missing_none}
-use Rattle.layout.proofs.Lists.{each_append, each-imp, each-insert, each_left, each_right, length-insert}
-use Rattle.layout.proofs.Lists.{map-insert, sum-append, sum_insert}
+use Rattle.layout.proofs.Lists.{each_append, each_imp, each_insert, each_left, each_right, length_insert}
+use Rattle.layout.proofs.Lists.{map_insert, sum-append, sum_insert}
 use Rattle.layout.proofs.Ranges.{in_range-le-one}
 use Rattle.layout.proofs.SoundSums.{falling_heights, free_is}
 use Rattle.layout.specs.Adding.{Allocated, allocate, allocated, too_few, with_file}
 use Rattle.layout.specs.Allocations.{Allocates, Stock}
 use Rattle.layout.specs.Layout.{File, Layout, by_id, file_pieces, free_blocks, has_file, holds_block}
-use Rattle.layout.specs.Lists.{Each, done, insertBy, more, next, none, sum_of}
+use Rattle.layout.specs.Lists.{Each, done, insert_by, more, next, none, sum_of}
 use Rattle.layout.specs.Sound.{greatest_id}
 use Rattle.layout.specs.Sums.{RisingIds, Shape, ShapeSound, SoundSums, shape}
 use Rattle.section.specs.Limits.{most_files}
@@ -28,18 +28,18 @@ abbrev by_shape : Shape → Shape → Bool
 by_shape a b = leb a.id b.id
 
 pub ids_insert : (a : Shape) {l : List Shape} → Each (λ (b : Shape). b.id ≡ a.id → ⊥) l → RisingIds l
-    → RisingIds (insertBy by_shape a l)
-unfolding insertBy
+    → RisingIds (insert_by by_shape a l)
+unfolding insert_by
 ids_insert a done none = next done none
 ids_insert a (more {a = b} {l = l} n e) (next p q) = go (leb a.id b.id) refl (ids_insert a e q)
   where
-    go : (t : Bool) → leb a.id b.id ≡ t → RisingIds (insertBy by_shape a l)
-        → RisingIds (elim t as (λ _. List Shape) [ true ↦ a ∷ b ∷ l | false ↦ b ∷ insertBy by_shape a l ])
+    go : (t : Bool) → leb a.id b.id ≡ t → RisingIds (insert_by by_shape a l)
+        → RisingIds (elim t as (λ _. List Shape) [ true ↦ a ∷ b ∷ l | false ↦ b ∷ insert_by by_shape a l ])
     go true h r =
         let x = leb-true a.id b.id h in
         let lt : a.id < b.id = omega (arith, n) in
-        next (more lt (each-imp (λ c y. omega arith) p)) (next p q)
-    go false h r = next (each-insert by_shape a (leb-false a.id b.id h) p) r
+        next (more lt (each_imp (λ c y. omega arith) p)) (next p q)
+    go false h r = next (each_insert by_shape a (leb-false a.id b.id h) p) r
 
 pub shapes_without : (i : ℕ) {l : List File} → Each (λ (f : File). f.id ≡ i → ⊥) l
     → Each (λ (s : Shape). s.id ≡ i → ⊥) (map shape l)
@@ -47,10 +47,10 @@ shapes_without i done = done
 shapes_without i (more {a = f} p e) = more {a = shape f} p (shapes_without i e)
 
 pub sum-with_file : (w : Section → ℕ) (f : File) (l : List File)
-    → sum_of w (file_pieces (insertBy by_id f l)) ≡ sum_of w f.pieces + sum_of w (file_pieces l)
+    → sum_of w (file_pieces (insert_by by_id f l)) ≡ sum_of w f.pieces + sum_of w (file_pieces l)
 unfolding file_pieces
 sum-with_file w f l =
-    as_sum (insertBy by_id f l)
+    as_sum (insert_by by_id f l)
     ∙ (sum_insert (λ (g : File). sum_of w g.pieces) by_id f l ∙ ap (λ z. sum_of w f.pieces + z) (sym (as_sum l)))
   where
     as_sum : (l : List File) → sum_of w (file_pieces l) ≡ sum_of (λ (g : File). sum_of w g.pieces) l
@@ -107,8 +107,8 @@ module _ (K i n : ℕ) (l : Layout) (g : SoundSums K l) where
     abbrev new : File
     new = record { id = i; pieces = s }
 
-    shapes_inserted : map shape (insertBy by_id new l.files) ≡ insertBy by_shape (shape new) (map shape l.files)
-    shapes_inserted = map-insert shape by_id by_shape (λ a b. refl) new l.files
+    shapes_inserted : map shape (insert_by by_id new l.files) ≡ insert_by by_shape (shape new) (map shape l.files)
+    shapes_inserted = map_insert shape by_id by_shape (λ a b. refl) new l.files
 
     pub added_size : sum_of length_of s ≡ n
     added_size = p.blocks ∙ pages-mod room
@@ -138,13 +138,13 @@ module _ (K i n : ℕ) (l : Layout) (g : SoundSums K l) where
       cap = g.cap;
       disk =
           each_append
-          (files_each (insertBy by_id new l.files)
-          (each-insert by_id new p.on
+          (files_each (insert_by by_id new l.files)
+          (each_insert by_id new p.on
           (each_files l.files (each_left (file_pieces l.files) l.free g.disk))))
           p.stock.disk;
       covers = λ x. omega (
         arith,
-        sum-append (holds_block x) (file_pieces (insertBy by_id new l.files)) r,
+        sum-append (holds_block x) (file_pieces (insert_by by_id new l.files)) r,
         sum-with_file (holds_block x) new l.files,
         p.held x,
         sum-append (holds_block x) (file_pieces l.files) l.free,
@@ -153,9 +153,9 @@ module _ (K i n : ℕ) (l : Layout) (g : SoundSums K l) where
       rising = p.stock.rising;
       thin = p.stock.thin;
       shapes =
-          subst (Each ShapeSound) (sym shapes_inserted) (each-insert by_shape (shape new) new-shape g.shapes);
+          subst (Each ShapeSound) (sym shapes_inserted) (each_insert by_shape (shape new) new-shape g.shapes);
       ids =
           subst RisingIds (sym shapes_inserted)
           (ids_insert (shape new) (shapes_without i (missing_none i l.files fresh)) g.ids);
-      few = omega (arith, length-insert by_id new l.files);
+      few = omega (arith, length_insert by_id new l.files);
     }

@@ -6,7 +6,7 @@ use native.Mathlib.Nat.{mod-eq_of_lt}
 use native.Mathlib.Omega.{arith}
 use lib.Pow.{pow-lt}
 use Rattle.layout.proofs.Added.{allocate_fits, allocate_only}
-use Rattle.layout.proofs.Lists.{pairwise-imp}
+use Rattle.layout.proofs.Lists.{pairwise_imp}
 use Rattle.layout.proofs.Ones.{distinct-ones}
 use Rattle.layout.proofs.Soundness.{sound_sums}
 use Rattle.layout.specs.Adding.{allocate, allocated}
@@ -24,6 +24,6 @@ allocated_per_one k n l s r pos sound small e =
     let g = sound_sums k l pos sound in
     let (t, q, e', p) = allocate_fits k 1 n l g (allocate_only k 1 n l g s r small e) in
     let same : t ≡ s = cc in
-    let falling = pairwise-imp (λ a b z. pow-lt z) (subst Falling same p.falling) in
+    let falling = pairwise_imp (λ a b z. pow-lt z) (subst Falling same p.falling) in
     let size = ap (sum_of length_of) (sym same) ∙ (p.blocks ∙ mod-eq_of_lt small) in
-    (distinct-ones n s (pairwise-imp (λ a b z y. omega (arith, z)) falling) size, falling)
+    (distinct-ones n s (pairwise_imp (λ a b z y. omega (arith, z)) falling) size, falling)

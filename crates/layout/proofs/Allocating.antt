@@ -6,8 +6,8 @@ use native.Mathlib.Decide.{ℕ_discrete}
 use native.Mathlib.Nat.{lt_of_not-le, mod-lt, mod-one, pow-zero}
 use native.Mathlib.Omega.{arith}
 use lib.Pow.{mod-pow-add, pow_mono}
-use Rattle.layout.proofs.Lists.{each_and, each-imp}
-use Rattle.layout.proofs.Splitting.{TakesPieceOf, at_most_one-small, count_none, of_height_other, of_height_same}
+use Rattle.layout.proofs.Lists.{each_and, each_imp}
+use Rattle.layout.proofs.Splitting.{TakesPieceOf, at_most_one_small, count_none, of_height_other, of_height_same}
 use Rattle.layout.proofs.Splitting.{take_piece_is}
 use Rattle.layout.specs.Adding.{Allocated, Taken, allocate, allocated, nothing, take_piece, taken, too_few}
 use Rattle.layout.specs.Adding.{with_piece}
@@ -23,7 +23,7 @@ falling_thin none h = omega arith
 falling_thin (next {a = a} {l = l} e f) h = go (ℕ_discrete a.height.value h) (falling_thin f h)
   where
     go : Dec (a.height.value ≡ h) → count_of h l ≤ 1 → count_of h (a ∷ l) ≤ 1
-    go (yes p) ih = omega (arith, of_height_same h a p, count_none h (each-imp (λ b q r. omega arith) e))
+    go (yes p) ih = omega (arith, of_height_same h a p, count_none h (each_imp (λ b q r. omega arith) e))
     go (no p) ih = omega (arith, of_height_other h a p)
 
 -- a section of a disk of fewer than 2^k blocks is lower than k
@@ -79,7 +79,7 @@ module _ (c n : ℕ) where
           zeroed (allocated s r) q = record {
             on = q.on;
             falling = q.falling;
-            lower = each-imp (λ a z. omega arith) q.lower;
+            lower = each_imp (λ a z. omega arith) q.lower;
             stock = q.stock;
             held = q.held;
             size = q.size;
@@ -99,8 +99,8 @@ module _ (c n : ℕ) where
           placed_on : (p : Allocated) → AllocatesOf c h n r p → AllocatesOf c (suc h) n free (with_piece s p)
           placed_on (allocated m r') q = record {
             on = more u.fits q.on;
-            falling = next {a = s} (each-imp (λ a z. omega (arith, u.height)) q.lower) q.falling;
-            lower = more {a = s} (omega (arith, u.height)) (each-imp (λ a z. omega arith) q.lower);
+            falling = next {a = s} (each_imp (λ a z. omega (arith, u.height)) q.lower) q.falling;
+            lower = more {a = s} (omega (arith, u.height)) (each_imp (λ a z. omega arith) q.lower);
             stock = q.stock;
             held = λ x. omega (arith, u.held x, q.held x);
             size = omega (arith, u.size, q.size, tall_s);
@@ -111,8 +111,8 @@ module _ (c n : ℕ) where
           let one : n / 2 ^ h % 2 ≡ 1 = omega arith in
           let eq : n % 2 ^ suc h ≡ 2 ^ h + n % 2 ^ h =
           mod-digit n h ∙ (ap (λ z. z * 2 ^ h + n % 2 ^ h) one ∙ omega arith) in
-          let under : Each (λ (s : Section). s.height.value < h) free = each-imp
+          let under : Each (λ (s : Section). s.height.value < h) free = each_imp
           (λ s p.
           lt_of_not-le (λ q. p.1 q (le-of-lt-suc s.height.value h k (height-lt c (suc h + k) top s p.0))))
           (each_and st.disk u) in
-          omega (arith, eq, at_most_one-small c h under st.thin)
+          omega (arith, eq, at_most_one_small c h under st.thin)

@@ -11,7 +11,7 @@ use lib.ListN.{length}
 use lib.Pow.{pow-lt, pow_mono, pow_pos}
 use Rattle.layout.proofs.Allocating.{falling_thin}
 use Rattle.layout.proofs.Breaks.{break_apart, breaks-next, breaks-none, breaks-one}
-use Rattle.layout.proofs.Lists.{each_append, each-imp, each-sort, sum-append, sum_ge, sum_sort}
+use Rattle.layout.proofs.Lists.{each_append, each_imp, each_sort, sum-append, sum_ge, sum_sort}
 use Rattle.layout.proofs.Ones.{falling-ones}
 use Rattle.layout.proofs.Ranges.{in_range-halves}
 use Rattle.layout.proofs.SoundSums.{falling_heights}
@@ -22,9 +22,9 @@ use Rattle.layout.specs.Cases.{disk, file}
 use Rattle.layout.specs.Covering.{Falling}
 use Rattle.layout.specs.Layout.{File, Layout, OnDisk, block_count, breaks_of, by_first, file_pieces, find_file}
 use Rattle.layout.specs.Layout.{holds_block, in_range, of_height}
-use Rattle.layout.specs.Lists.{Each, done, more, next, none, sortBy, sum_of}
+use Rattle.layout.specs.Lists.{Each, done, more, next, none, sort_by, sum_of}
 use Rattle.layout.specs.Sums.{SoundSums, shape}
-use Rattle.section.proofs.Lengths.{pow-lt_inv}
+use Rattle.section.proofs.Lengths.{pow_lt_inv}
 use Rattle.section.proofs.Multiples.{below_or_not}
 use Rattle.section.specs.Sections.{length_of, section}
 use Rattle.section.specs.declared.Section.{Section}
@@ -61,13 +61,13 @@ abbrev second : ℕ → Section
 second k = section (2 ^ k) k
 
 -- a lot of fewer than 2 ^ k blocks, with that section put first, is a lot of 2 ^ k blocks more
-abbrev lot_with-second : {c m n : ℕ} (k : ℕ) → 2 ^ suc k ≤ c → m < 2 ^ k → n ≡ 2 ^ k + m → Lot c m → Lot c n
-lot_with-second {c} {m} {n} k fits p e q = record {
+abbrev lot_with_second : {c m n : ℕ} (k : ℕ) → 2 ^ suc k ≤ c → m < 2 ^ k → n ≡ 2 ^ k + m → Lot c m → Lot c n
+lot_with_second {c} {m} {n} k fits p e q = record {
   pieces = second k ∷ q.pieces;
   disk = more {a = second k} (record { aligned = mod_self (2 ^ k); within = omega arith }) q.disk;
   falling =
       next {a = second k}
-      (each-imp (λ s z. pow-lt_inv s.height.value k (omega (arith, q.size))) (sum_ge length_of q.pieces))
+      (each_imp (λ s z. pow_lt_inv s.height.value k (omega (arith, q.size))) (sum_ge length_of q.pieces))
       q.falling;
   early = more {a = second k} (omega arith) q.early;
   size = omega (arith, q.size);
@@ -102,14 +102,14 @@ tiled c (suc k) n m fits low sum =
     elim (below_or_not (2 ^ k) n) [
       | inr p ↦ (let t = tiled c k n (m - 2 ^ k) (omega arith) low (omega arith) in record {
         held = t.held;
-        free = lot_with-second k fits (omega arith) (omega arith) t.free;
+        free = lot_with_second k fits (omega arith) (omega arith) t.free;
         some = t.some;
         covers = λ x. omega (arith, t.covers x, halves x);
       })
       | inl p ↦ elim (below_or_not 0 m) [
         | inr q ↦ tiled_by_one c (suc k) n m fits (omega arith) (omega arith)
         | inl q ↦ (let t = tiled c k (n - 2 ^ k) m (omega arith) (omega arith) (omega arith) in record {
-          held = lot_with-second k fits (omega arith) (omega arith) t.held;
+          held = lot_with_second k fits (omega arith) (omega arith) t.held;
           free = t.free;
           some = omega arith;
           covers = λ x. omega (arith, t.covers x, halves x);
@@ -131,7 +131,7 @@ module _ {k n m : ℕ} (t : Tiled (2 ^ k) k n m) where
 
   -- and no other file is there
   abbrev tiled_layout : Layout
-  tiled_layout = disk (2 ^ k) (holder ∷ []) (sortBy by_first t.free.pieces)
+  tiled_layout = disk (2 ^ k) (holder ∷ []) (sort_by by_first t.free.pieces)
 
   -- it keeps the rules
   tiled_sound : SoundSums (suc k) tiled_layout
@@ -140,7 +140,7 @@ module _ {k n m : ℕ} (t : Tiled (2 ^ k) k n m) where
     some = pow_pos k;
     top = pow-lt {i = k} {j = suc k} (omega arith);
     cap = pow_mono {i = k} {j = suc k - 1} (omega arith);
-    disk = each_append (each_append t.held.disk done) (each-sort by_first t.free.disk);
+    disk = each_append (each_append t.held.disk done) (each_sort by_first t.free.disk);
     covers = λ x. omega (
       arith,
       t.covers x,

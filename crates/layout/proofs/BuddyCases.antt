@@ -5,7 +5,7 @@ use mathlib.Core.Path.{◌≡◌, refl}
 use Rattle.layout.specs.Adding.{take_first}
 use Rattle.layout.specs.Cases.{copy, file, removed}
 use Rattle.layout.specs.Layout.{file_pieces, in_range}
-use Rattle.layout.specs.Lists.{insertBy, sortBy}
+use Rattle.layout.specs.Lists.{insert_by, sort_by}
 use Rattle.layout.specs.Removing.{buddy_pair, copies_from, copies_of, copy_run, fewer, insert_all, layout_after}
 use Rattle.layout.specs.Removing.{lowest_two, merge, merge_all, merge_copies, merge_pair, next_merge, pair}
 use Rattle.layout.specs.Removing.{release, removal, without_file}
@@ -28,7 +28,7 @@ choices_of_buddies = refl
 
 -- else the two lowest: where two others are neighbours and no buddies, where there are buddies of another height, and
 -- where a section of another height begins where the buddy would
-pub choices_of-lowest :
+pub choices_of_lowest :
     merge_pair 1 (section 0 1 ∷ section 6 1 ∷ section 8 1 ∷ [])
     ∷ merge_pair 0 (section 0 1 ∷ section 2 1 ∷ section 5 0 ∷ section 8 0 ∷ [])
     ∷ merge_pair 1 (section 0 1 ∷ section 2 0 ∷ section 4 1 ∷ [])
@@ -38,7 +38,7 @@ pub choices_of-lowest :
     ∷ pair (section 0 1) (section 4 1) (section 2 0 ∷ [])
     ∷ []
 unfolding merge_pair buddy_pair lowest_two take_first buddy_first
-choices_of-lowest = refl
+choices_of_lowest = refl
 
 -- no two of the height are buddies: neighbours, buddies of another height, and a section of another height where the
 -- buddy would begin
@@ -75,7 +75,7 @@ pub removal_buddies_highest :
       after = record { blocks = 8; files = file 2 (section 2 1 ∷ []) ∷ []; free = section 0 1 ∷ section 4 2 ∷ [] };
     }
 unfolding removal release merge_all next_merge merge_pair buddy_pair lowest_two merge take_first file_pieces in_range copy_run
-    copies_from copies_of layout_after insert_all without_file insertBy sortBy moved_into is_inside buddy_first parent_first
+    copies_from copies_of layout_after insert_all without_file insert_by sort_by moved_into is_inside buddy_first parent_first
 removal_buddies_highest = refl
 
 -- height 1 has free sections at 0, 2 and 4: the buddies are the two lowest
@@ -91,7 +91,7 @@ pub removal_buddies_lowest :
       after = record { blocks = 8; files = file 2 (section 6 1 ∷ []) ∷ []; free = section 0 2 ∷ section 4 1 ∷ [] };
     }
 unfolding removal release merge_all next_merge merge_pair buddy_pair lowest_two merge take_first file_pieces in_range copy_run
-    copies_from copies_of layout_after insert_all without_file insertBy sortBy moved_into is_inside buddy_first parent_first
+    copies_from copies_of layout_after insert_all without_file insert_by sort_by moved_into is_inside buddy_first parent_first
 removal_buddies_lowest = refl
 
 -- height 1 has free sections at 12, 20 and 22: those at 20 and 22 are merged without a copy, and the merges above copy
@@ -119,5 +119,5 @@ pub removal_buddies_dearer :
       };
     }
 unfolding removal release merge_all next_merge merge_pair buddy_pair lowest_two merge take_first file_pieces in_range copy_run
-    copies_from copies_of layout_after insert_all without_file insertBy sortBy moved_into is_inside buddy_first parent_first
+    copies_from copies_of layout_after insert_all without_file insert_by sort_by moved_into is_inside buddy_first parent_first
 removal_buddies_dearer = refl

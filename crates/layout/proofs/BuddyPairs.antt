@@ -9,7 +9,7 @@ use native.Mathlib.Omega.{arith}
 use lib.Dec.{eqb, ltb}
 use lib.Pow.{pow_pos}
 use borrow.Author.Tests.{eq-eqb, eqb-true, le-ltb, lt-ltb, ltb-true}
-use Rattle.layout.proofs.Lists.{each-imp}
+use Rattle.layout.proofs.Lists.{each_imp}
 use Rattle.layout.proofs.Taking.{TakesOf, take_first_is, take_first-none, takes_back, takes_test}
 use Rattle.layout.specs.Adding.{Taken, nothing, take_first, taken}
 use Rattle.layout.specs.Choices.{BuddiesOf, BuddyAbove, NoBuddies, Takes}
@@ -96,7 +96,7 @@ buddy_pair_is h free = go (take_first (has_free_buddy h free) free) (take_first_
         see : (t : Taken) → take_first (is_buddy_above l) free ≡ t → TakesOf (is_buddy_above l) free t
             → Each (λ (u : Section). BuddyAbove l u → ⊥) free
         see (taken u r) q x = no_both (rw (eq-eqb l.height.value h e, q)) n
-        see nothing q x = each-imp (λ u f b. no_both (is_buddy_above_lem l u b) f) x
+        see nothing q x = each_imp (λ u f b. no_both (is_buddy_above_lem l u b) f) x
 
     second : (l : Section) (r : List Section) → Takes (has_free_buddy h free) free l r → (q : Taken)
         → TakesOf (is_buddy_above l) r q → BuddiesOf h free (with_lower l q)
@@ -119,7 +119,7 @@ buddy_pair_is h free = go (take_first (has_free_buddy h free) free) (take_first_
 
     go : (p : Taken) → TakesOf (has_free_buddy h free) free p → BuddiesOf h free (with_buddy p)
     go (taken l r) p = second l r p (take_first (is_buddy_above l) r) (take_first_is (is_buddy_above l) r)
-    go nothing p = each-imp alone p
+    go nothing p = each_imp alone p
 
 pub no_buddies_left : (h : ℕ) (free : List Section) → buddy_pair h free ≡ fewer → NoBuddies h free
 no_buddies_left h free e = subst (BuddiesOf h free) e (buddy_pair_is h free)
@@ -131,9 +131,9 @@ pub buddies_copy_nothing : (fs : List File) (l u : Section) → (buddy_of l).fir
 buddies_copy_nothing fs l u e = rw (eq-eqb (buddy_of l).first u.first e)
 
 -- so the merge of two that are taken as buddies copies nothing
-pub merge-of_buddies : (h : ℕ) (w : Layout) {l u : Section} {r : List Section} → buddy_pair h w.free ≡ pair l u r
+pub merge_of_buddies : (h : ℕ) (w : Layout) {l u : Section} {r : List Section} → buddy_pair h w.free ≡ pair l u r
     → (merge l u r w).copies ≡ []
 unfolding merge
-merge-of_buddies h w {l} {u} e =
+merge_of_buddies h w {l} {u} e =
     let b = subst (BuddiesOf h w.free) e (buddy_pair_is h w.free) in
     buddies_copy_nothing w.files l u (sym b.buddy.first)

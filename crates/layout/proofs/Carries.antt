@@ -26,11 +26,11 @@ carries-not-at h f n e = rw (lt-leb (2 ^ suc h) (f % 2 ^ suc h + n % 2 ^ suc h) 
 -- ---- in literal numbers
 
 -- cases 7, 9, 10 and 11, and two removals that copy more (28 blocks, and three free pieces of one height)
-pub carries-of_cases :
+pub carries_of_cases :
     carries 21 10 3 ∷ carries 21 1 1 ∷ carries 21 3 1 ∷ carries 21 3 1 ∷ carries 21 3 15 ∷ carries 21 3 3 ∷ []
     ≡ 2 ∷ 1 ∷ 3 ∷ 3 ∷ 15 ∷ 3 ∷ []
 unfolding carries
-carries-of_cases = refl
+carries_of_cases = refl
 
 -- no carry: nothing added, and ones at other places
 pub carries_nowhere : carries 21 7 0 ∷ carries 21 10 5 ∷ carries 21 524288 524287 ∷ [] ≡ 0 ∷ 0 ∷ 0 ∷ []

@@ -27,12 +27,12 @@ none_lower (both p b) = both (record { id = p.id; pages = p.rises }) (none_lower
 
 module _ (K i : ℕ) (l : Layout) (f : File) (r : List File) (g : SoundSums K l) (x : Find i l.files f r) where
   -- every copy of a removal goes to a higher block
-  pub removal-copies_rise : Each (λ (x : Copy). x.source < x.target) (copies_of (removal K f l))
-  removal-copies_rise = merged_rise (removal_keeps K i l f r g x).steps
+  pub removal_copies_rise : Each (λ (x : Copy). x.source < x.target) (copies_of (removal K f l))
+  removal_copies_rise = merged_rise (removal_keeps K i l f r g x).steps
 
   -- every copy of a removal reads and writes blocks of the disk
-  pub removal-copies_on_disk : Each (InDisk l.blocks) (copies_of (removal K f l))
-  removal-copies_on_disk = merged_reach (removal_keeps K i l f r g x).steps
+  pub removal_copies_on_disk : Each (InDisk l.blocks) (copies_of (removal K f l))
+  removal_copies_on_disk = merged_reach (removal_keeps K i l f r g x).steps
 
   -- a removal copies at most the sum of the place values at which f + n carries
   pub removal_count_limit : length (copies_of (removal K f l)) ≤ carries K (free_blocks l) (file_blocks f)

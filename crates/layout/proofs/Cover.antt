@@ -6,7 +6,7 @@ use mathlib.Core.Path.{◌∙◌, ◌≡◌, ap, ap₂, refl, sym}
 use Prim.Native.Nat.{◌+◌, ◌-◌, ◌<◌, ◌^◌, ◌≤◌, min, suc, zero, ℕ}
 use native.Mathlib.Decide.{dec_lt, ℕ_discrete}
 use native.Mathlib.Omega.{arith}
-use Rattle.layout.proofs.Lists.{each-imp}
+use Rattle.layout.proofs.Lists.{each_imp}
 use Rattle.layout.proofs.Ranges.{Position, above, below, in_range_above, in_range_below, in_range_inside}
 use Rattle.layout.proofs.Ranges.{in_range-le-one, position, within}
 use Rattle.layout.specs.Covering.{Covers, Disjoint}
@@ -98,7 +98,7 @@ disjoint_le x none = omega arith
 disjoint_le x (next {a = a} {l = l} e d) = go (ℕ_discrete (holds_block x a) 1) (disjoint_le x d)
   where
     go : Dec (holds_block x a ≡ 1) → sum_of (holds_block x) l ≤ 1 → holds_block x a + sum_of (holds_block x) l ≤ 1
-    go (yes p) h = omega (arith, total_none x (each-imp (λ b o. off_hits x a b o p) e))
+    go (yes p) h = omega (arith, total_none x (each_imp (λ b o. off_hits x a b o p) e))
     go (no p) h = omega (arith, in_range-le-one x a.first (2 ^ a.height.value))
 
 outside : (c x : ℕ) → c ≤ x → {l : List Section} → Each (OnDisk c) l → sum_of (holds_block x) l ≡ 0

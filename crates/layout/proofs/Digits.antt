@@ -10,7 +10,7 @@ use native.Mathlib.Omega.{arith}
 use lib.Dec.{eqb, eqb-suc-suc, eqb-suc-zero, eqb-zero-suc}
 use lib.ListN.{length}
 use borrow.Author.Tests.{eq-eqb}
-use Rattle.layout.proofs.Lists.{each_all, each-imp, length-sum, sum_cong, sum_ge}
+use Rattle.layout.proofs.Lists.{each_all, each_imp, length-sum, sum_cong, sum_ge}
 use Rattle.layout.specs.Layout.{of_height}
 use Rattle.layout.specs.Lists.{Each, done, indicator, more, sum_of}
 use Rattle.section.specs.declared.Section.{Section}
@@ -102,7 +102,7 @@ module _ (β : ℕ) where
       → ((h : ℕ) → sum_of (of_height h) l < β)
       → (h : ℕ) → sum_of (of_height h) l ≡ sum_of (λ (s : Section). β ^ s.height.value) l / β ^ h % β
   counts_are_digits pos k {l} e small h =
-      sym (ap (λ z. z / β ^ h % β) (val_size (max k (suc h)) (each-imp (λ s p. omega arith) e))
+      sym (ap (λ z. z / β ^ h % β) (val_size (max k (suc h)) (each_imp (λ s p. omega arith) e))
       ∙ val_digit pos (λ j. sum_of (of_height j) l) (max k (suc h)) h small (omega arith))
 
 -- ---- the fewest
@@ -150,7 +150,7 @@ length_counts k {l} e =
 -- no height is above the sum of all
 pub heights_below : (k : ℕ) (l : List Section) → sum_of (λ (s : Section). s.height.value) l < k
     → Each (λ (s : Section). s.height.value < k) l
-heights_below k l p = each-imp (λ s q. omega arith) (sum_ge (λ (s : Section). s.height.value) l)
+heights_below k l p = each_imp (λ s q. omega arith) (sum_ge (λ (s : Section). s.height.value) l)
 
 -- fewer than β of each height: no others, of as many blocks in all, are fewer
 pub counts_fewest : (β : ℕ) (l m : List Section) → ((h : ℕ) → sum_of (of_height h) l < β)

@@ -6,7 +6,7 @@ use mathlib.Core.Path.{◌≡◌, refl}
 use Prim.Native.Nat.{◌<◌, ◌^◌, ◌≤◌, suc, ℕ}
 use native.Mathlib.Omega.{arith}
 use lib.Pow.{pow_mono, pow_pos}
-use Rattle.layout.proofs.Lists.{each-head, each_tail}
+use Rattle.layout.proofs.Lists.{each_head, each_tail}
 use Rattle.layout.specs.Cases.{disk, file}
 use Rattle.layout.specs.Divisions.{Divides, Fewest, FewestPieces, PowerOf, SmallestNumber, lengths_of}
 use Rattle.layout.specs.Lists.{done, more}
@@ -16,12 +16,12 @@ use Rattle.section.specs.Sections.{section}
 -- ---- divisions
 
 -- as 4, 2 and 1, in another order, with a length that repeats, and block by block
-pub divisions_of-seven :
+pub divisions_of_seven :
     Divides 2 7 (4 ∷ 2 ∷ 1 ∷ [])
     × Divides 2 7 (1 ∷ 4 ∷ 2 ∷ [])
     × Divides 2 7 (2 ∷ 2 ∷ 2 ∷ 1 ∷ [])
     × Divides 2 7 (1 ∷ 1 ∷ 1 ∷ 1 ∷ 1 ∷ 1 ∷ 1 ∷ [])
-divisions_of-seven = (
+divisions_of_seven = (
   record { powers = more (2, refl) (more (1, refl) (more (0, refl) done)); sum = refl },
   record { powers = more (0, refl) (more (2, refl) (more (1, refl) done)); sum = refl },
   record { powers = more (1, refl) (more (1, refl) (more (1, refl) (more (0, refl) done))); sum = refl },
@@ -45,33 +45,33 @@ between_powers h x low high (j, e) = go (below_or_not h j)
     go (inr p) = omega (arith, e, pow_mono {i = j} {j = h} p)
 
 -- one block too few and one too many; 7 and 3 are no powers of two, nor is 0
-pub no_divisions_of-seven :
+pub no_divisions_of_seven :
     (Divides 2 7 (4 ∷ 2 ∷ []) → ⊥)
     × (Divides 2 7 (8 ∷ []) → ⊥)
     × (Divides 2 7 (7 ∷ []) → ⊥)
     × (Divides 2 7 (4 ∷ 3 ∷ []) → ⊥)
     × (Divides 2 7 (0 ∷ 4 ∷ 2 ∷ 1 ∷ []) → ⊥)
-no_divisions_of-seven = (
+no_divisions_of_seven = (
   λ d. omega (arith, d.sum),
   λ d. omega (arith, d.sum),
-  λ d. between_powers 2 7 (omega arith) (omega arith) (each-head d.powers),
-  λ d. between_powers 1 3 (omega arith) (omega arith) (each-head (each_tail d.powers)),
-  λ d. let power = each-head d.powers in omega (arith, power.1, pow_pos power.0),
+  λ d. between_powers 2 7 (omega arith) (omega arith) (each_head d.powers),
+  λ d. between_powers 1 3 (omega arith) (omega arith) (each_head (each_tail d.powers)),
+  λ d. let power = each_head d.powers in omega (arith, power.1, pow_pos power.0),
 )
 
 -- ---- not the fewest
 
 -- more pieces than need be, and fewer that are no division of 7
-pub not_fewest_of-seven :
+pub not_fewest_of_seven :
     (Fewest 2 7 (4 ∷ 1 ∷ 1 ∷ 1 ∷ []) → ⊥)
     × (Fewest 2 7 (2 ∷ 2 ∷ 2 ∷ 1 ∷ []) → ⊥)
     × (Fewest 2 7 (4 ∷ 2 ∷ []) → ⊥)
     × (SmallestNumber 2 7 4 → ⊥)
-not_fewest_of-seven = (
-  λ f. omega (arith, f.none_fewer (4 ∷ 2 ∷ 1 ∷ []) divisions_of-seven.0),
-  λ f. omega (arith, f.none_fewer (4 ∷ 2 ∷ 1 ∷ []) divisions_of-seven.0),
+not_fewest_of_seven = (
+  λ f. omega (arith, f.none_fewer (4 ∷ 2 ∷ 1 ∷ []) divisions_of_seven.0),
+  λ f. omega (arith, f.none_fewer (4 ∷ 2 ∷ 1 ∷ []) divisions_of_seven.0),
   λ f. omega (arith, f.divides.sum),
-  λ s. omega (arith, s.number, s.fewest.none_fewer (4 ∷ 2 ∷ 1 ∷ []) divisions_of-seven.0),
+  λ s. omega (arith, s.number, s.fewest.none_fewer (4 ∷ 2 ∷ 1 ∷ []) divisions_of_seven.0),
 )
 
 -- ---- pieces
@@ -88,6 +88,6 @@ pub not_fewest_of_eight :
     (FewestPieces 2 (disk 8 (file 1 (section 4 1 ∷ section 6 1 ∷ []) ∷ []) (section 0 2 ∷ [])) → ⊥)
     × (FewestPieces 2 (disk 8 (file 1 (section 4 2 ∷ []) ∷ []) (section 0 1 ∷ section 2 1 ∷ [])) → ⊥)
 not_fewest_of_eight = (
-  λ p. omega (arith, (each-head p.files).none_fewer (4 ∷ []) four-blocks),
+  λ p. omega (arith, (each_head p.files).none_fewer (4 ∷ []) four-blocks),
   λ p. omega (arith, p.free.none_fewer (4 ∷ []) four-blocks),
 )

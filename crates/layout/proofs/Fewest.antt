@@ -12,9 +12,9 @@ use borrow.Author.Tests.{eq-eqb, ne_eqb}
 use Rattle.layout.proofs.Breaks.{indicator_most}
 use Rattle.layout.proofs.Divisions.{heights_divide, lengths_divide, thin_fewest}
 use Rattle.layout.proofs.FreshPieces.{fresh_pieces}
-use Rattle.layout.proofs.Lists.{each-imp, pairwise_map}
+use Rattle.layout.proofs.Lists.{each_imp, pairwise_map}
 use Rattle.layout.proofs.Ones.{ones_power}
-use Rattle.layout.proofs.PerOne.{below_power, per_one_count, per_one-distinct, per_one-sum}
+use Rattle.layout.proofs.PerOne.{below_power, per_one_count, per_one_distinct, per_one_sum}
 use Rattle.layout.specs.Divisions.{Divides, Fewest, SmallestNumber, lengths_of}
 use Rattle.layout.specs.Layout.{OnePiecePerOne, block_count, fresh_layout}
 use Rattle.layout.specs.Lists.{Each, Pairwise, done, indicator, more, next, none, sum_of, times_in}
@@ -33,7 +33,7 @@ distinct_once x (next {a = y} {l = l} e p) = go (ℕ_discrete y x) (distinct_onc
   where
     go : Dec (y ≡ x) → times_in x l ≤ 1 → indicator (eqb y x) + times_in x l ≤ 1
     go (yes q) r =
-        omega (arith, ap indicator (eq-eqb y x q), absent_none x (each-imp (λ z n s. n (q ∙ sym s)) e))
+        omega (arith, ap indicator (eq-eqb y x q), absent_none x (each_imp (λ z n s. n (q ∙ sym s)) e))
     go (no q) r = omega (arith, ap indicator (ne_eqb y x q))
 
 -- ---- one piece for each 1
@@ -45,8 +45,8 @@ pieces_divide n l = lengths_divide 2 n length_of l (λ s. (s.height.value, refl)
 -- of all divisions of n blocks none has fewer pieces than there are, if there is one for each 1 of n
 pub per_one_fewest : (n : ℕ) (l : List Section) → OnePiecePerOne n l → Fewest 2 n (lengths_of l)
 per_one_fewest n l per =
-    thin_fewest 2 (pieces_divide n l (per_one-sum n l per))
-    (λ x. omega (arith, distinct_once x (pairwise_map length_of (per_one-distinct n l per))))
+    thin_fewest 2 (pieces_divide n l (per_one_sum n l per))
+    (λ x. omega (arith, distinct_once x (pairwise_map length_of (per_one_distinct n l per))))
 
 -- ---- the ones of n
 

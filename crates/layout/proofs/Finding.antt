@@ -9,7 +9,7 @@ use lib.ListN.{length}
 use borrow.Author.Tests.{eq-eqb, eqb-false, eqb-true, ne_eqb}
 use Rattle.layout.proofs.Lists.{each_append, each_left, each_right, sum-append}
 use Rattle.layout.specs.Layout.{File, Found, by_id, file_pieces, find_file, found, has_file, is_found, missing}
-use Rattle.layout.specs.Lists.{Each, done, insertBy, more, next, sum_of}
+use Rattle.layout.specs.Lists.{Each, done, insert_by, more, next, sum_of}
 use Rattle.layout.specs.Moves.{same}
 use Rattle.layout.specs.Removals.{Find, here, there}
 use Rattle.layout.specs.Removing.{without_file}
@@ -110,8 +110,8 @@ find_length (there n p) = ap suc (find_length p)
 
 -- a file that is put in is found
 pub found_inserted : (i : ℕ) (s : List Section) (l : List File) → has_file i l ≡ false
-    → find_file i (insertBy by_id (record { id = i; pieces = s }) l) ≡ found (record { id = i; pieces = s })
-unfolding find_file insertBy
+    → find_file i (insert_by by_id (record { id = i; pieces = s }) l) ≡ found (record { id = i; pieces = s })
+unfolding find_file insert_by
 found_inserted i s [] e = rw (eq-eqb i i refl, find_file)
 found_inserted i s (g ∷ l) e = go (leb i g.id) (eqb g.id i) refl e (λ k. found_inserted i s l k)
   where
@@ -122,10 +122,10 @@ found_inserted i s (g ∷ l) e = go (leb i g.id) (eqb g.id i) refl e (λ k. foun
     go : (t u : Bool) → eqb g.id i ≡ u
         → is_found (elim u as (λ _. Found) [ true ↦ found g | false ↦ find_file i l ]) ≡ false
         → (has_file i l ≡ false
-        → find_file i (insertBy by_id (record { id = i; pieces = s }) l) ≡ found (record { id = i; pieces = s }))
+        → find_file i (insert_by by_id (record { id = i; pieces = s }) l) ≡ found (record { id = i; pieces = s }))
         → find_file i (elim t as (λ _. List File) [
           | true ↦ record { id = i; pieces = s } ∷ g ∷ l
-          | false ↦ g ∷ insertBy by_id (record { id = i; pieces = s }) l
+          | false ↦ g ∷ insert_by by_id (record { id = i; pieces = s }) l
         ])
         ≡ found (record { id = i; pieces = s })
     go true u q h k = here_first (g ∷ l)

@@ -8,7 +8,7 @@ use native.Mathlib.Omega.{arith}
 use lib.ListN.{drop, get_or, length, take}
 use lib.Pow.{pow_pos}
 use Rattle.layout.proofs.BuddyPairs.{not_above_lem, not_past}
-use Rattle.layout.proofs.Lists.{each_and, each-imp, sum-append, sum-ge-all}
+use Rattle.layout.proofs.Lists.{each_and, each_imp, sum-append, sum_ge_all}
 use Rattle.layout.proofs.Ranges.{in_range-apart, in_range-le-one}
 use Rattle.layout.proofs.Taking.{take_first_behind, take_first_here, take_first-none}
 use Rattle.layout.specs.Adding.{Taken, keeping, nothing, take_first, taken}
@@ -23,7 +23,7 @@ use Rattle.section.specs.declared.Section.{Section}
 pub in_order : (l : List Section) → Rising l → ((x : ℕ) → sum_of (holds_block x) l ≤ 1) → InOrder l
 in_order [] none t = none
 in_order (s ∷ l) (next q r) t =
-    next (each-imp (λ b w. one b w.0 w.1) (each_and q (sum-ge-all holds_block l)))
+    next (each_imp (λ b w. one b w.0 w.1) (each_and q (sum_ge_all holds_block l)))
     (in_order l r (λ x. omega (arith, t x)))
   where
     one : (b : Section) → s.first ≤ b.first → ((x : ℕ) → holds_block x b ≤ sum_of (holds_block x) l)
@@ -64,7 +64,7 @@ pub found_next : (a b : Section) (l : List Section) → InOrder (a ∷ b ∷ l)
 found_next a b l (next (more le _) (next e _)) = go (is_buddy_above a b) refl
   where
     past : Each (λ (t : Section). is_buddy_above a t ≡ false) l
-    past = each-imp (λ t q. not_past a t (omega (arith, pow_pos b.height.value))) e
+    past = each_imp (λ t q. not_past a t (omega (arith, pow_pos b.height.value))) e
 
     go : (t : Bool) → is_buddy_above a b ≡ t → is_taken (take_first (is_buddy_above a) (b ∷ l)) ≡ t
     go true q = ap is_taken (take_first_here (is_buddy_above a) b l q)

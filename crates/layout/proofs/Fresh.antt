@@ -6,7 +6,7 @@ use Prim.Native.Nat.{◌%◌, ◌*◌, ◌+◌, ◌-◌, ◌<◌, ◌^◌, ◌�
 use native.Mathlib.Nat.{mod-eq_of_lt, mod_self, zero-mod}
 use native.Mathlib.Omega.{arith}
 use Rattle.layout.proofs.Allocating.{falling_thin, mod-digit}
-use Rattle.layout.proofs.Lists.{each-imp}
+use Rattle.layout.proofs.Lists.{each_imp}
 use Rattle.layout.proofs.PiecesFrom.{digit-zero-or-one, pieces_from-cons, pieces_from_nil, pieces_from_skip}
 use Rattle.layout.proofs.Ranges.{Position, above, below, in_range_above, in_range_below, in_range-halves}
 use Rattle.layout.proofs.Ranges.{position, within}
@@ -63,7 +63,7 @@ laid c (suc k) n x m p =
           disk = q.disk;
           held = λ y. q.held y ∙ sym (ap (in_range y x) eq);
           falling = q.falling;
-          lower = each-imp (λ s z. omega arith) q.lower;
+          lower = each_imp (λ s z. omega arith) q.lower;
           rising = q.rising;
           from = q.from;
         })
@@ -78,9 +78,9 @@ laid c (suc k) n x m p =
               λ y. ap (λ z. in_range y x (2 ^ k) + z) (q.held y)
               ∙ (sym (in_range-halves y x (2 ^ k) (n % 2 ^ k)) ∙ sym (ap (in_range y x) eq));
           falling = next {a = section x k} q.lower q.falling;
-          lower = more {a = section x k} (omega arith) (each-imp (λ s z. omega arith) q.lower);
-          rising = next {a = section x k} (each-imp (λ s z. omega arith) q.from) q.rising;
-          from = more {a = section x k} (omega arith) (each-imp (λ s z. omega arith) q.from);
+          lower = more {a = section x k} (omega arith) (each_imp (λ s z. omega arith) q.lower);
+          rising = next {a = section x k} (each_imp (λ s z. omega arith) q.from) q.rising;
+          from = more {a = section x k} (omega arith) (each_imp (λ s z. omega arith) q.from);
         })
 
 pub fresh_sound : (K c : ℕ) → 1 ≤ c → c < 2 ^ K → c ≤ 2 ^ (K - 1) → SoundSums K (fresh_layout K c)

@@ -9,7 +9,7 @@ use native.Mathlib.Omega.{arith}
 use lib.Pow.{pow-lt}
 use Rattle.layout.proofs.Cover.{covers_size}
 use Rattle.layout.proofs.Fresh.{laid}
-use Rattle.layout.proofs.Lists.{pairwise-imp}
+use Rattle.layout.proofs.Lists.{pairwise_imp}
 use Rattle.layout.proofs.Ones.{distinct-ones}
 use Rattle.layout.proofs.PiecesFrom.{digit-zero-or-one, pieces_from-cons, pieces_from_nil, pieces_from_skip}
 use Rattle.layout.specs.Cases.{fresh}
@@ -32,11 +32,11 @@ fresh_pieces k c top =
     let e : c % 2 ^ k ≡ c = mod-eq_of_lt top in
     let q = laid c k c 0 (zero-mod (2 ^ k)) (omega arith) in
     let size = covers_size c q.disk (λ y. q.held y ∙ ap (in_range y 0) e) in
-    let falling = pairwise-imp (λ s t p. pow-lt p) q.falling in
+    let falling = pairwise_imp (λ s t p. pow-lt p) q.falling in
     record {
       blocks = refl;
       files = refl;
-      ones = distinct-ones c (pieces_from k c 0) (pairwise-imp (λ s t p z. omega (arith, p)) falling) size;
+      ones = distinct-ones c (pieces_from k c 0) (pairwise_imp (λ s t p z. omega (arith, p)) falling) size;
       longest_first = falling;
       in_row = run k c 0;
     }

@@ -8,10 +8,10 @@ use native.Mathlib.Omega.{arith}
 use lib.Dec.{eqb}
 use lib.ListN.{length, length-map}
 use borrow.Author.Tests.{leb-false, leb-true}
-use Rattle.layout.proofs.Lists.{length-sort, sum-map, sum_sort}
+use Rattle.layout.proofs.Lists.{length_sort, sum-map, sum_sort}
 use Rattle.layout.specs.Helping.{Candidate, by_copies, candidate, candidates_of, helping_ids, lets_in}
 use Rattle.layout.specs.Layout.{File, Layout, file_blocks, free_blocks}
-use Rattle.layout.specs.Lists.{Each, done, indicator, more, sortBy, times_in}
+use Rattle.layout.specs.Lists.{Each, done, indicator, more, sort_by, times_in}
 
 -- ---- the candidates
 
@@ -54,7 +54,7 @@ module _ (k n : ℕ) (l : Layout) where
 
 -- the ids of the candidates, sorted
 pub helping_sorted : (k n : ℕ) (l : Layout)
-    → helping_ids k n l ≡ map (λ (a : Candidate). a.id) (sortBy by_copies (candidates_of k n l l.files))
+    → helping_ids k n l ≡ map (λ (a : Candidate). a.id) (sort_by by_copies (candidates_of k n l l.files))
 unfolding helping_ids
 helping_sorted k n l = refl
 
@@ -72,14 +72,14 @@ pub helping_times : (k n : ℕ) (l : Layout) (i : ℕ)
 helping_times k n l i =
     let c = candidates_of k n l l.files in
     ap (times_in i) (helping_sorted k n l)
-    ∙ (sum-map (is_one i) id_of (sortBy by_copies c)
+    ∙ (sum-map (is_one i) id_of (sort_by by_copies c)
     ∙ (sum_sort (λ a. is_one i (id_of a)) by_copies c ∙ sym (sum-map (is_one i) id_of c)))
 
 -- the list is as long as there are candidates
 pub helping_count : (k n : ℕ) (l : Layout) → length (helping_ids k n l) ≡ length (candidates_of k n l l.files)
 helping_count k n l =
     let c = candidates_of k n l l.files in
-    ap length (helping_sorted k n l) ∙ (length-map (sortBy by_copies c) id_of ∙ length-sort by_copies c)
+    ap length (helping_sorted k n l) ∙ (length-map (sort_by by_copies c) id_of ∙ length_sort by_copies c)
 
 -- no more than there are files
 pub helping_length : (k n : ℕ) (l : Layout) → length (helping_ids k n l) ≤ length l.files

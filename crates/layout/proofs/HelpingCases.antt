@@ -7,7 +7,7 @@ use Rattle.layout.specs.Helping.{candidates_of, helping_ids}
 use Rattle.layout.specs.HelpingRows.{Copies, Gives, case_six_rows, document_copies, edge_copies, edge_rows}
 use Rattle.layout.specs.HelpingRows.{eight_files_copies, eight_files_rows, five_files, five_files_rows, sixty_four_rows}
 use Rattle.layout.specs.Layout.{file_pieces, fresh_layout, in_range, pieces_from}
-use Rattle.layout.specs.Lists.{insertBy, sortBy, times_in}
+use Rattle.layout.specs.Lists.{insert_by, sort_by, times_in}
 use Rattle.layout.specs.Removing.{buddy_pair, copies_from, copies_of, copy_run, insert_all, lowest_two}
 use Rattle.layout.specs.Removing.{merge, merge_all, merge_pair, next_merge, release, removal, without_file}
 use Rattle.section.specs.Sections.{buddy_first, is_inside, moved_into, parent_first}
@@ -18,13 +18,13 @@ pub disks-added :
     ∷ added 6 2 (added 4 3 (added 3 3 (added 2 3 (added 1 3 (fresh_layout 13 16)))))
     ∷ []
     ≡ case_six ∷ five_files ∷ []
-unfolding fresh_layout pieces_from allocate take_piece take_first insertBy
+unfolding fresh_layout pieces_from allocate take_piece take_first insert_by
 disks-added = refl
 
 -- the blocks that the removal of each file copies
 pub copies-computed : Copies document_copies × Copies eight_files_copies × Copies edge_copies
 unfolding removal release merge_all next_merge merge_pair buddy_pair lowest_two merge take_first file_pieces in_range copy_run
-    copies_from copies_of insert_all without_file insertBy sortBy moved_into is_inside buddy_first parent_first
+    copies_from copies_of insert_all without_file insert_by sort_by moved_into is_inside buddy_first parent_first
 copies-computed = (refl, refl, refl)
 
 -- the ids; and where nothing but single blocks is merged no removal of case 6 copies, and the ids alone decide
@@ -32,7 +32,7 @@ pub ids-computed :
     Gives case_six_rows × Gives five_files_rows × Gives eight_files_rows × Gives edge_rows × Gives sixty_four_rows
     × (helping_ids 1 11 case_six ≡ 2 ∷ 5 ∷ 9 ∷ [])
 unfolding helping_ids candidates_of singles removal release merge_all next_merge merge_pair buddy_pair lowest_two merge
-    take_first file_pieces in_range copy_run copies_from copies_of insert_all without_file insertBy sortBy moved_into is_inside
+    take_first file_pieces in_range copy_run copies_from copies_of insert_all without_file insert_by sort_by moved_into is_inside
     buddy_first parent_first
 ids-computed = (refl, refl, refl, refl, refl, refl)
 

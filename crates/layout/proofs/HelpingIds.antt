@@ -12,7 +12,7 @@ use Rattle.layout.proofs.HelpingOrder.{NotAfter, order_fails, order_holds, order
 use Rattle.layout.proofs.Finding.{find_here, find_nil, find_past}
 use Rattle.layout.proofs.Helping.{candidates_each, candidates_nil, candidates_no, candidates_yes, helping_times}
 use Rattle.layout.proofs.Helping.{lets_in_lem}
-use Rattle.layout.proofs.Lists.{each-imp, each_map, each-sort, pairwise-imp, pairwise_map, sort_sorted}
+use Rattle.layout.proofs.Lists.{each_imp, each_map, each_sort, pairwise_imp, pairwise_map, sort_sorted}
 use Rattle.layout.proofs.LookingUp.{rising_found}
 use Rattle.layout.proofs.Sorted.{pairwise_and, pairwise_each, pairwise_sort, sorted_same}
 use Rattle.layout.specs.Helping.{Candidate, CopiesFirst, Helping, LetsIn, by_copies, candidate, candidates_of}
@@ -27,7 +27,7 @@ module _ (k n : ℕ) (l : Layout) where
   Known a = LetsIn n l a.id × ((f : File) → find_file a.id l.files ≡ found f → a.copies ≡ copies_for k l f)
 
   known : ByRisingId l.files → Each Known (candidates_of k n l l.files)
-  known rise = candidates_each k n l (each-imp known_file (rising_found rise))
+  known rise = candidates_each k n l (each_imp known_file (rising_found rise))
     where
       known_file : (f : File) → find_file f.id l.files ≡ found f → n ≤ file_blocks f + free_blocks l
           → Known (candidate k l f)
@@ -44,7 +44,7 @@ module _ (k n : ℕ) (l : Layout) where
           → Pairwise (λ (a b : Candidate). a.id ≡ b.id → ⊥) (candidates_of k n l (f ∷ fs))
       go true h r =
           rw (candidates_yes k n l f fs h)
-          (next {a = candidate k l f} (candidates_each k n l (each-imp (λ g x _ e. omega (arith, x, e)) p)) r)
+          (next {a = candidate k l f} (candidates_each k n l (each_imp (λ g x _ e. omega (arith, x, e)) p)) r)
       go false h r = rw (candidates_no k n l f fs h) r
 
   -- sorted by copies and id: one before the other, with another id, is first in the copy order
@@ -92,7 +92,7 @@ module _ (k n : ℕ) (l : Layout) where
           let same : f ≡ g = cc in
           let h' = subst (λ (z : File). n ≤ file_blocks z + free_blocks l) same h in
           rw (candidates_yes k n l g fs (lets_in_lem n l g h'))
-          (omega (arith, ap indicator s, times_none i (each-imp (λ z w. omega (arith, w, x)) p)))
+          (omega (arith, ap indicator s, times_none i (each_imp (λ z w. omega (arith, w, x)) p)))
       go false s r =
           let x = eqb-false g.id i s in
           times_past i g fs x ∙ r (sym (find_past i g fs x) ∙ e)
@@ -104,12 +104,12 @@ module _ (k n : ℕ) (l : Layout) where
   unfolding helping_ids
   helping_ids_lem rise =
       let c = candidates_of k n l l.files in
-      let e = each-sort by_copies (known rise) in
+      let e = each_sort by_copies (known rise) in
       record {
         all = λ i x. helping_times k n l i ∙ times_one i x.0 rise x.1 x.2;
-        only = each_map (λ (a : Candidate). a.id) (each-imp (λ a x. x.0) e);
+        only = each_map (λ (a : Candidate). a.id) (each_imp (λ a x. x.0) e);
         sorted = pairwise_map (λ (a : Candidate). a.id)
-            (pairwise-imp copies-first
+            (pairwise_imp copies-first
             (pairwise_and (pairwise_each e)
             (pairwise_and (sort_sorted by_copies NotAfter order_holds order_fails order_trans c)
             (pairwise_sort (λ a b d s. d (sym s)) by_copies (differ rise)))));
@@ -149,4 +149,4 @@ module _ (k n : ℕ) (l : Layout) where
       order y = pairwise_and (pairwise_each y.only) y.sorted
 
       members : {ids others : List ℕ} → Helping k n l ids → Helping k n l others → Each (λ i. Memᴰ i others) ids
-      members {others} y z = each-imp (λ i w. times_member i others (omega (arith, z.all i w))) y.only
+      members {others} y z = each_imp (λ i w. times_member i others (omega (arith, z.all i w))) y.only

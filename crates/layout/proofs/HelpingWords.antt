@@ -7,7 +7,7 @@ use Prim.Native.Nat.{ℕ}
 use native.Mathlib.Omega.{arith}
 use Rattle.layout.proofs.HelpingCases.{copies-computed, ids-computed}
 use Rattle.layout.proofs.HelpingIds.{helping_ids_lem, helping_pinned}
-use Rattle.layout.proofs.Lists.{each-head}
+use Rattle.layout.proofs.Lists.{each_head}
 use Rattle.layout.specs.Cases.{case_six, five, nine, two}
 use Rattle.layout.specs.Helping.{CopiesFirst, Helping, InCopyOrder, LetsIn, copies_for, helping_ids}
 use Rattle.layout.specs.Layout.{file_blocks, find_file}
@@ -82,14 +82,14 @@ five_left_out h = omega (arith, h.all 5 five_lets_in)
 
 -- and no other stands
 pub two_beside_five : Helping 13 13 case_six (2 ∷ 5 ∷ []) → ⊥
-two_beside_five h = two_does_not (each-head h.only)
+two_beside_five h = two_does_not (each_head h.only)
 
 -- 9 does not stand before 2
 pub nine-first : Helping 13 11 case_six (9 ∷ 2 ∷ 5 ∷ []) → ⊥
 nine-first h = go h.sorted
   where
     go : InCopyOrder 13 case_six (9 ∷ 2 ∷ 5 ∷ []) → ⊥
-    go (next p q) = nine-not-before-two (each-head p)
+    go (next p q) = nine-not-before-two (each_head p)
 
 rise : ByRisingId case_six.files
 rise =

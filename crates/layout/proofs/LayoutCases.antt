@@ -5,7 +5,7 @@ use mathlib.Core.Path.{◌≡◌, refl}
 use Rattle.layout.specs.Adding.{allocate, allocated, take_first, take_piece}
 use Rattle.layout.specs.Cases.{case_six, copy, file, five, removed}
 use Rattle.layout.specs.Layout.{block_run, blocks_of, file_pieces, fresh_layout, in_range, pieces_from}
-use Rattle.layout.specs.Lists.{insertBy, sortBy}
+use Rattle.layout.specs.Lists.{insert_by, sort_by}
 use Rattle.layout.specs.Removing.{buddy_pair, copies_from, copies_of, copy_run, insert_all, layout_after, lowest_two}
 use Rattle.layout.specs.Removing.{merge, merge_all, merge_pair, next_merge, release, removal, without_file}
 use Rattle.section.specs.Sections.{buddy_first, is_inside, moved_into, parent_first, section}
@@ -18,7 +18,7 @@ case_three_lem = refl
 -- case 4: the lower half is used, the upper joins the free pieces
 pub case_four : allocate 0 13 3 (section 0 4 ∷ [])
     ≡ allocated (section 0 1 ∷ section 2 0 ∷ []) (section 3 0 ∷ section 4 2 ∷ section 8 3 ∷ [])
-unfolding allocate take_piece take_first insertBy
+unfolding allocate take_piece take_first insert_by
 case_four = refl
 
 -- cases 7, 9, 10 and 11
@@ -65,7 +65,7 @@ pub removals :
     })
     ∷ []
 unfolding removal release merge_all next_merge merge_pair buddy_pair lowest_two merge take_first file_pieces in_range copy_run
-    copies_from copies_of layout_after insert_all without_file insertBy sortBy moved_into is_inside buddy_first parent_first
+    copies_from copies_of layout_after insert_all without_file insert_by sort_by moved_into is_inside buddy_first parent_first
 removals = refl
 
 -- two free pieces that lie apart in the buddy: the blocks before, between and behind them are copied, and they move
@@ -86,7 +86,7 @@ pub removal_around_free_pieces :
       };
     }
 unfolding removal release merge_all next_merge merge_pair buddy_pair lowest_two merge take_first file_pieces in_range copy_run
-    copies_from copies_of layout_after insert_all without_file insertBy sortBy moved_into is_inside buddy_first parent_first
+    copies_from copies_of layout_after insert_all without_file insert_by sort_by moved_into is_inside buddy_first parent_first
 removal_around_free_pieces = refl
 
 -- case 11: id 2 is read as blocks 0 to 3, 14, 15, 13

@@ -9,7 +9,7 @@ use lib.Dec.{eqb, ltb}
 use lib.ListN.{length, take}
 use borrow.Author.Tests.{eqb-false, eqb-true, le-ltb, lt-ltb, ltb-false, ltb-true}
 use Rattle.layout.proofs.Finding.{find_here, find_nil, find_past}
-use Rattle.layout.proofs.Lists.{each_and, each-imp}
+use Rattle.layout.proofs.Lists.{each_and, each_imp}
 use Rattle.layout.specs.Layout.{File, Layout, find_file, found, missing}
 use Rattle.layout.specs.Lists.{Each, done, indicator, more, next, none}
 use Rattle.layout.specs.Sound.{Sound}
@@ -23,7 +23,7 @@ sound_rises s = s.ids_rise
 pub rising_found : {l : List File} → ByRisingId l → Each (λ (f : File). find_file f.id l ≡ found f) l
 rising_found none = done
 rising_found (next {a = f} {l = l} p q) = more (find_here f.id f l refl)
-    (each-imp (λ g h. find_past g.id f l (λ e. omega (arith, h.0)) ∙ h.1) (each_and p (rising_found q)))
+    (each_imp (λ g h. find_past g.id f l (λ e. omega (arith, h.0)) ∙ h.1) (each_and p (rising_found q)))
 
 -- the ids read are those below, and one more exactly if there are others
 pub read_below : (i : ℕ) (l : List File) → ids_read i l ≡ ids_below i l + indicator (ltb (ids_below i l) (length l))
@@ -73,7 +73,7 @@ module _ (i : ℕ) where
 -- the first id is not below the one sought: no other is, and it is the only one read
 module _ (i : ℕ) (f : File) (l : List File) (high : i ≤ f.id) (rise : Each (λ (g : File). f.id < g.id) l) where
   above : Each (λ (g : File). i < g.id) l
-  above = each-imp (λ g h. omega arith) rise
+  above = each_imp (λ g h. omega arith) rise
 
   pub below_none : ids_below i (f ∷ l) ≡ 0
   unfolding ids_below
@@ -139,4 +139,4 @@ below_first i (next {a = f} {l = l} p q) = go (ltb f.id i) refl (below_first i q
     go false e x =
         let high = ltb-false f.id i e in
         subst (λ n. FirstBelow i n (f ∷ l)) (sym (below_none i f l high p))
-        (record { first = done; others = more high (each-imp (λ g h. omega arith) p) })
+        (record { first = done; others = more high (each_imp (λ g h. omega arith) p) })

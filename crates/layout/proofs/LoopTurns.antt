@@ -105,8 +105,8 @@ at-height K i l f r g x h =
     (p.0, subst (λ z. AtMostFrom z (at_height h f l)) (zero-add h) p.1)
 
 -- and it merges at most once there
-pub one-merge_a_turn : (K i : ℕ) (l : Layout) (f : File) (r : List File) → SoundSums K l → Find i l.files f r
+pub one_merge_a_turn : (K i : ℕ) (l : Layout) (f : File) (r : List File) → SoundSums K l → Find i l.files f r
     → (h : ℕ) → length (merges_of_height h (layout_after (release f l) (merges_from h 0 (release f l)))) ≤ 1
-one-merge_a_turn K i l f r g x h =
+one_merge_a_turn K i l f r g x h =
     let p = at-height K i l f r g x h in
     (turn l.blocks (length (at_height h f l).free) h (at_height h f l) p.0 p.1 (omega arith)).once

@@ -4,14 +4,14 @@ use mathlib.Core.List.{List}
 use mathlib.Core.Path.{◌≡◌, ap, subst, sym}
 use Prim.Native.Nat.{◌+◌, ◌^◌, suc, zero, ℕ}
 use native.Mathlib.Omega.{arith}
-use Rattle.layout.proofs.Lists.{each_all, each_and, each-imp, sum_insert}
+use Rattle.layout.proofs.Lists.{each_all, each_and, each_imp, sum_insert}
 use Rattle.layout.proofs.MovedPieces.{section_eta}
-use Rattle.layout.proofs.Taking.{TakesOf, nothing_height, take_first_is, take_piece_highest, take_piece-or_split}
+use Rattle.layout.proofs.Taking.{TakesOf, nothing_height, take_first_is, take_piece_highest, take_piece_or_split}
 use Rattle.layout.proofs.Taking.{takes_height}
 use Rattle.layout.specs.Adding.{Taken, nothing, or_else, split_at, take_first, take_piece, taken}
 use Rattle.layout.specs.Allocations.{ComesFrom, upper_halves}
 use Rattle.layout.specs.Layout.{by_first, has_height}
-use Rattle.layout.specs.Lists.{Each, insertBy}
+use Rattle.layout.specs.Lists.{Each, insert_by}
 use Rattle.section.specs.Sections.{section}
 use Rattle.section.specs.declared.Section.{Section}
 use Rattle.layout.specs.Choices.{Takes}
@@ -39,7 +39,7 @@ from_height {k} {h} {free} {s} {r} p =
 
 from_half : {k h : ℕ} {free : List Section} {s : Section} {r : List Section}
     → Each (λ (a : Section). a.height.value ≡ h → ⊥) free → ComesFrom k (suc h) free s r
-    → ComesFrom (suc k) h free (section s.first h) (insertBy by_first (section (s.first + 2 ^ h) h) r)
+    → ComesFrom (suc k) h free (section s.first h) (insert_by by_first (section (s.first + 2 ^ h) h) r)
 unfolding upper_halves
 from_half {k} {h} {free} {s} {r} none c = record {
   source = c.source;
@@ -48,7 +48,7 @@ from_half {k} {h} {free} {s} {r} none c = record {
   splits = suc c.splits;
   height = omega (arith, c.height);
   reach = omega (arith, c.reach);
-  lowest = each-imp (λ a q x y. q.1 (omega (arith, q.0)) y) (each_and none c.lowest);
+  lowest = each_imp (λ a q x y. q.1 (omega (arith, q.0)) y) (each_and none c.lowest);
   piece = ap (λ x. section x h) start;
   rest = λ w. omega (
     arith,
@@ -70,7 +70,7 @@ comes zero h free =
     go (taken s r) q = from_height q
     go nothing q = tt
 comes (suc k) h free =
-    subst (ComesFromOf (suc k) h free) (sym (take_piece-or_split k h free))
+    subst (ComesFromOf (suc k) h free) (sym (take_piece_or_split k h free))
     (go (take_first (has_height h) free) (take_first_is (has_height h) free) (take_piece k (suc h) free)
     (comes k (suc h) free))
   where

@@ -10,13 +10,13 @@ use native.Mathlib.Omega.{arith}
 use lib.Dec.{eqb}
 use borrow.Author.Tests.{eqb-false, eqb-true}
 use Rattle.layout.proofs.BuddyPairs.{buddy_pair_is}
-use Rattle.layout.proofs.Lists.{each_and, each-imp, pairwise-imp, sum-ge-all}
+use Rattle.layout.proofs.Lists.{each_and, each_imp, pairwise_imp, sum_ge_all}
 use Rattle.layout.proofs.MergePairs.{lowest_two_is, lowest_two-lowest, merge_pair-lowest, LowestOf, MergeableOf}
 use Rattle.layout.proofs.Occurs.{occurs-none, occurs-one}
-use Rattle.layout.proofs.Taking.{takes-each}
+use Rattle.layout.proofs.Taking.{takes_each}
 use Rattle.layout.specs.Adding.{take_first}
 use Rattle.layout.specs.Layout.{file_pieces, in_range}
-use Rattle.layout.specs.Lists.{Each, done, indicator, insertBy, more, next, none, sortBy, sum_of}
+use Rattle.layout.specs.Lists.{Each, done, indicator, insert_by, more, next, none, sort_by, sum_of}
 use Rattle.layout.specs.Removing.{MergePair, buddy_pair, copies_from, copies_of, copy_run, fewer, insert_all}
 use Rattle.layout.specs.Removing.{layout_after, lowest_two, merge, merge_all, merge_pair, next_merge, pair, release}
 use Rattle.layout.specs.Removing.{removal, without_file}
@@ -33,8 +33,8 @@ no_buddies_taken h free alone = go (buddy_pair h free) (buddy_pair_is h free)
   where
     go : (t : MergePair) → BuddiesOf h free t → t ≡ fewer
     go (pair l u r) b =
-        let of-l = (takes-each b.lower alone).0 in
-        let of-u = (takes-each b.upper (takes-each b.lower of-l).1).0 in
+        let of-l = (takes_each b.lower alone).0 in
+        let of-u = (takes_each b.upper (takes_each b.lower of-l).1).0 in
         absurd (of-u b.low (b.buddy.height ∙ b.low) (sym b.buddy.first))
     go fewer b = refl
 
@@ -53,13 +53,13 @@ begins_once (next {a = a} {l = l} e p) x = go (eqb a.first x) refl (begins_once 
     go : (t : Bool) → eqb a.first x ≡ t → sum_of (begins_at x) l ≤ 1 → begins_at x a + sum_of (begins_at x) l ≤ 1
     go true q ih =
         let at : a.first ≡ x = eqb-true a.first x q in
-        omega (arith, past (each-imp (λ s z. omega arith) e), occurs-one a.first x at)
+        omega (arith, past (each_imp (λ s z. omega arith) e), occurs-one a.first x at)
     go false q ih = omega (arith, occurs-none a.first x (eqb-false a.first x q))
 
 pub lowest_are_merged : (h : ℕ) (free : List Section) {l u : Section} {r : List Section} → RisingStrictly free
     → NoTwoBuddies h free → merge_pair h free ≡ pair l u r → AreLowest h l u r
 lowest_are_merged h free {l} {u} {r} rise alone e =
-    let weak = pairwise-imp (λ a b p. le_of_lt p) rise in
+    let weak = pairwise_imp (λ a b p. le_of_lt p) rise in
     let two : lowest_two h free ≡ pair l u r = sym (merge_pair-lowest h free (no_buddies_taken h free alone)) ∙ e in
     let m = subst (MergeableOf h free) two (lowest_two_is h free weak) in
     let once : begins_at u.first l + sum_of (begins_at u.first) r ≡ 0 =
@@ -69,8 +69,8 @@ lowest_are_merged h free {l} {u} {r} rise alone e =
       high = m.high;
       order = omega (arith, m.order, elsewhere l (omega (arith, once)));
       above =
-          each-imp (λ s q z. omega (arith, q.0 z, elsewhere s (omega (arith, once, q.1 u.first))))
-          (each_and (subst (LowestOf h) two (lowest_two-lowest h free weak)) (sum-ge-all begins_at r));
+          each_imp (λ s q z. omega (arith, q.0 z, elsewhere s (omega (arith, once, q.1 u.first))))
+          (each_and (subst (LowestOf h) two (lowest_two-lowest h free weak)) (sum_ge_all begins_at r));
     }
   where
     elsewhere : (s : Section) → begins_at u.first s ≡ 0 → s.first ≡ u.first → ⊥
@@ -100,11 +100,11 @@ pub removal-lowest-of-three :
       };
     }
 unfolding removal release merge_all next_merge merge_pair buddy_pair lowest_two merge take_first file_pieces in_range copy_run
-    copies_from copies_of layout_after insert_all without_file insertBy sortBy moved_into is_inside buddy_first parent_first
+    copies_from copies_of layout_after insert_all without_file insert_by sort_by moved_into is_inside buddy_first parent_first
 removal-lowest-of-three = refl
 
 -- with the third at 6 it is the buddy of the one at 4: these two are merged, and only the merge of height 0 copies
-pub removal_buddies_of-three :
+pub removal_buddies_of_three :
     removed (file 1 (section 6 1 ∷ section 2 0 ∷ []))
     (record {
       blocks = 8;
@@ -120,5 +120,5 @@ pub removal_buddies_of-three :
       };
     }
 unfolding removal release merge_all next_merge merge_pair buddy_pair lowest_two merge take_first file_pieces in_range copy_run
-    copies_from copies_of layout_after insert_all without_file insertBy sortBy moved_into is_inside buddy_first parent_first
-removal_buddies_of-three = refl
+    copies_from copies_of layout_after insert_all without_file insert_by sort_by moved_into is_inside buddy_first parent_first
+removal_buddies_of_three = refl

@@ -8,7 +8,7 @@ use native.Mathlib.Omega.{arith}
 use lib.ListN.{length}
 use Rattle.layout.proofs.Allocating.{height-lt}
 use Rattle.layout.proofs.FilesMoved.{moved_refl, moved_trans}
-use Rattle.layout.proofs.Lists.{each_append, each-imp, each_right}
+use Rattle.layout.proofs.Lists.{each_append, each_imp, each_right}
 use Rattle.layout.proofs.MergePairs.{merge_pair_is, MergeableOf}
 use Rattle.layout.proofs.MergeStep.{merge_keeps}
 use Rattle.layout.proofs.Splitting.{count_none, of_height_other, of_height_same}
@@ -37,7 +37,7 @@ module _ (c K : ℕ) (top : c < 2 ^ K) where
   none_above : (w : Layout) → Whole c w → (j : ℕ) → K ≤ j → count_of j w.free ≡ 0
   none_above w wh j p =
       count_none j
-      (each-imp (λ s d e. not-le_of_lt (height-lt c K top s d) (omega arith))
+      (each_imp (λ s d e. not-le_of_lt (height-lt c K top s d) (omega arith))
       (each_right (file_pieces w.files) w.free wh.disk))
 
   pub next_merge_is : (k h : ℕ) (w : Layout) → Whole c w → h + k ≡ K → ((j : ℕ) → j < h → count_of j w.free ≤ 1)

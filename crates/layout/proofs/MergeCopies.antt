@@ -8,7 +8,7 @@ use native.Mathlib.Omega.{arith}
 use lib.Dec.{eqb}
 use borrow.Author.Tests.{eqb-false, eqb-true}
 use Rattle.layout.proofs.CopiesFrom.{each_from}
-use Rattle.layout.proofs.Lists.{each-imp}
+use Rattle.layout.proofs.Lists.{each_imp}
 use Rattle.layout.proofs.Origins.{InRun, copy_run_in_run, origin_from, origin_off}
 use Rattle.layout.proofs.Ranges.{Position, above, below, position, within}
 use Rattle.layout.proofs.Swaps.{swap, swap-first, swap_off}
@@ -39,7 +39,7 @@ merge-origin p h b u s x held o = go (eqb b u) refl
     miss (inr p) c w e = omega (arith, w.to, w.less)
 
     fixed : origin (copies_from p (copy_run b u (2 ^ h))) x ≡ x
-    fixed = origin_off x (each-imp (λ c w. miss o c w.0) (each_from p (copy_run_in_run b u (2 ^ h))))
+    fixed = origin_off x (each_imp (λ c w. miss o c w.0) (each_from p (copy_run_in_run b u (2 ^ h))))
 
     ran : Apart b (2 ^ h) u (2 ^ h) → Position x b (2 ^ h)
         → origin (copies_from p (copy_run b u (2 ^ h))) (swap b u (2 ^ h) x) ≡ x
@@ -68,5 +68,5 @@ merge_within p h b u = go (eqb b u) refl
     go : (t : Bool) → eqb b u ≡ t → Each (MergeCopy p h b u) (cond t [] (copies_from p (copy_run b u (2 ^ h))))
     go true e = done
     go false e =
-        each-imp (λ c w. record { run = w.0; other = eqb-false b u e; held = w.1 })
+        each_imp (λ c w. record { run = w.0; other = eqb-false b u e; held = w.1 })
         (each_from p (copy_run_in_run b u (2 ^ h)))

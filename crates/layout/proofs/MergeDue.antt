@@ -10,7 +10,7 @@ use Rattle.layout.proofs.BuddyPairs.{buddies_copy_nothing}
 use Rattle.layout.proofs.MergeAll.{NextIs, next_merge_is}
 use Rattle.layout.specs.Adding.{take_first}
 use Rattle.layout.specs.Layout.{Layout, file_pieces, in_range, of_height}
-use Rattle.layout.specs.Lists.{insertBy, sortBy, sum_of}
+use Rattle.layout.specs.Lists.{insert_by, sort_by, sum_of}
 use Rattle.layout.specs.Removing.{Merge, Next, buddy_pair, copies_from, copies_of, copy_run, due, insert_all}
 use Rattle.layout.specs.Removing.{layout_after, lowest_two, merge, merge_all, merge_pair, next_merge, release}
 use Rattle.layout.specs.Removing.{removal, settled, without_file}
@@ -49,7 +49,7 @@ buddies_merge_uncopied w l u others e = buddies_copy_nothing w.files l u e
 -- ---- in literal numbers
 
 -- one block of 4,096 is removed, and a height after the other is merged, all twelve, with no copy
-pub removal-all_heights :
+pub removal_all_heights :
     removed (file 1 (section 0 0 ∷ []))
     (record {
       blocks = 4096;
@@ -60,5 +60,5 @@ pub removal-all_heights :
     })
     ≡ record { copies = []; after = record { blocks = 4096; files = []; free = section 0 12 ∷ [] } }
 unfolding removal release merge_all next_merge merge_pair buddy_pair lowest_two merge take_first file_pieces in_range copy_run
-    copies_from copies_of layout_after insert_all without_file insertBy sortBy moved_into is_inside buddy_first parent_first
-removal-all_heights = refl
+    copies_from copies_of layout_after insert_all without_file insert_by sort_by moved_into is_inside buddy_first parent_first
+removal_all_heights = refl

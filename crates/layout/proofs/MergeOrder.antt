@@ -5,7 +5,7 @@ use Prim.Native.Nat.{◌/◌, ◌<◌, ◌^◌, ◌≤◌, suc, ℕ}
 use native.Mathlib.Decide.{dec_lt, ℕ_discrete}
 use native.Mathlib.Nat.{mod-lt}
 use native.Mathlib.Omega.{arith}
-use Rattle.layout.proofs.Lists.{each-imp}
+use Rattle.layout.proofs.Lists.{each_imp}
 use Rattle.layout.proofs.Removed.{release_counts, removal_keeps}
 use Rattle.layout.specs.Layout.{File, Layout, file_blocks, free_blocks}
 use Rattle.layout.specs.Lists.{Each, Pairwise, done, more, next, none}
@@ -16,8 +16,8 @@ use Rattle.layout.specs.Sums.{SoundSums}
 use Rattle.layout.specs.Covering.{count_of}
 
 -- a merge has one height: the only one that loses free pieces
-pub merge-height_unique : {c h j : ℕ} {w : Layout} {m : Merge} → MergeKeeps c h w m → MergeKeeps c j w m → j ≡ h
-merge-height_unique {c} {h} {j} {w} {m} p q = go (ℕ_discrete j h) (ℕ_discrete j (suc h))
+pub merge_height_unique : {c h j : ℕ} {w : Layout} {m : Merge} → MergeKeeps c h w m → MergeKeeps c j w m → j ≡ h
+merge_height_unique {c} {h} {j} {w} {m} p q = go (ℕ_discrete j h) (ℕ_discrete j (suc h))
   where
     go : Dec (j ≡ h) → Dec (j ≡ suc h) → j ≡ h
     go (yes e) d = e
@@ -71,7 +71,7 @@ heights_from (rest wh t) p = (done, none)
 heights_from (step h lt wh low st s) p =
     let q = carry_on low st p in
     let r = heights_from s q.1 in
-    (more q.0 (each-imp (λ j e. omega (arith, q.0)) r.0), next r.0 r.1)
+    (more q.0 (each_imp (λ j e. omega (arith, q.0)) r.0), next r.0 r.1)
 
 -- where no height has more than two free pieces, the merges go from low to high, none twice at one height
 pub merge_heights_rise : {c K : ℕ} {w : Layout} {ms : List Merge} (s : MergedAll c K w ms)
@@ -91,5 +91,5 @@ module _ (K i : ℕ) (l : Layout) (f : File) (r : List File) (g : SoundSums K l)
   )
 
   -- the heights of a removal's merges rise, so at most one merge happens at each height
-  pub one-merge_a_height : Pairwise (λ h j. h < j) (merge_heights (removal_keeps K i l f r g x).steps)
-  one-merge_a_height = merge_heights_rise (removal_keeps K i l f r g x).steps released_two
+  pub one_merge_a_height : Pairwise (λ h j. h < j) (merge_heights (removal_keeps K i l f r g x).steps)
+  one_merge_a_height = merge_heights_rise (removal_keeps K i l f r g x).steps released_two

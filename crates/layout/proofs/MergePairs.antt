@@ -7,7 +7,7 @@ use native.Mathlib.Nat.{le_of_lt}
 use native.Mathlib.Omega.{arith}
 use Rattle.layout.proofs.BuddyPairs.{buddy_pair_is}
 use Rattle.layout.proofs.Splitting.{count_none, of_height_same}
-use Rattle.layout.proofs.Taking.{TakesOf, nothing_height, take_first_is, takes-each, takes_height, takes_lowest}
+use Rattle.layout.proofs.Taking.{TakesOf, nothing_height, take_first_is, takes_each, takes_height, takes_lowest}
 use Rattle.layout.proofs.Taking.{takes_rising, takes_sum}
 use Rattle.layout.specs.Adding.{Taken, nothing, take_first, taken}
 use Rattle.layout.specs.Choices.{BuddiesOf, Mergeable, Takes}
@@ -37,7 +37,7 @@ mergeable h free r r' l u lh uh o rise p q = record {
   order = o;
   rising = takes_rising q (takes_rising p rise);
   sum = λ w. omega (arith, takes_sum w p, takes_sum w q);
-  each = λ c e. let x = takes-each p e in let y = takes-each q x.1 in (x.0, y.0, y.1);
+  each = λ c e. let x = takes_each p e in let y = takes_each q x.1 in (x.0, y.0, y.1);
 }
 
 -- ---- the two lowest
@@ -50,7 +50,7 @@ lowest_two_is h free rise = go (take_first (has_height h) free) (take_first_is (
         → MergeableOf h free (with_lower l q)
     go2 l r p (taken u r') q =
         mergeable h free r r' l u (takes_height p) (takes_height q)
-        ((takes-each q (takes_lowest p rise)).0 (takes_height q)) rise p q
+        ((takes_each q (takes_lowest p rise)).0 (takes_height q)) rise p q
     go2 l r p nothing q =
         omega (arith, takes_sum (of_height h) p, of_height_same h l (takes_height p), count_none h (nothing_height q))
 

@@ -11,7 +11,7 @@ use lib.ListN.{length}
 use borrow.Author.Tests.{ltb-false}
 use Rattle.layout.proofs.CopiesFrom.{none-counted}
 use Rattle.layout.proofs.Cover.{sum_below_cong, sum_below_sections, sum_below_span}
-use Rattle.layout.proofs.Lists.{each-imp, each_right}
+use Rattle.layout.proofs.Lists.{each_imp, each_right}
 use Rattle.layout.proofs.MergeHeld.{merge_number}
 use Rattle.layout.proofs.MergePairs.{lowest_unless_buddies, lowest_two-lowest, merge_pair_is, LowestOf}
 use Rattle.layout.proofs.MergePairs.{MergeableOf}
@@ -20,7 +20,7 @@ use Rattle.layout.proofs.Merging.{within_height}
 use Rattle.layout.proofs.Moving.{placed_off}
 use Rattle.layout.proofs.Ranges.{Position, above, below, in_range_above, in_range_below, in_range_inside}
 use Rattle.layout.proofs.Ranges.{position, within}
-use Rattle.layout.proofs.Splitting.{at_most_one-small, count_none}
+use Rattle.layout.proofs.Splitting.{at_most_one_small, count_none}
 use Rattle.layout.specs.Choices.{Mergeable}
 use Rattle.layout.specs.Covering.{Whole, count_of}
 use Rattle.layout.specs.Layout.{Layout, file_pieces, holds_block, in_range, of_height}
@@ -117,23 +117,23 @@ module _ (c : ℕ) (w : Layout) (l u : Section) (r : List Section) (wh : Whole c
 
   -- so they come to less than the buddy
   too_small : sum_of length_of in_buddy < 2 ^ l.height.value
-  too_small = at_most_one-small c l.height.value heights thin
+  too_small = at_most_one_small c l.height.value heights thin
     where
       heights : Each (λ (s : Section). s.height.value < l.height.value) in_buddy
-      heights = each-imp (λ s p. lower_inside s p.1 p.0) (each_inside (buddy_of l) least)
+      heights = each_imp (λ s p. lower_inside s p.1 p.0) (each_inside (buddy_of l) least)
 
       thin : (j : ℕ) → count_of j in_buddy ≤ 1
       thin j = go (dec_lt j l.height.value)
         where
           go : Dec (j < l.height.value) → count_of j in_buddy ≤ 1
           go (yes p) = omega (arith, low j p, inside_fewer (buddy_of l) (of_height j) r, m.sum (of_height j))
-          go (no p) = omega (arith, count_none j (each-imp (λ s x y. omega (arith, p)) heights))
+          go (no p) = omega (arith, count_none j (each_imp (λ s x y. omega (arith, p)) heights))
 
   -- were no block of the buddy held, they would fill it
   filled : ((i : ℕ) → i < length_of l → is_held w.files ((buddy_of l).first + i) ≡ false)
       → sum_of length_of in_buddy ≡ length_of l
   filled none =
-      sym (sum_below_sections c (each-imp (λ s p. p.0) (each_inside (buddy_of l) q.free)))
+      sym (sum_below_sections c (each_imp (λ s p. p.0) (each_inside (buddy_of l) q.free)))
       ∙ (sum_below_cong c (λ x. sum_of (holds_block x) in_buddy) (λ x. in_range x (buddy_of l).first (length_of l))
       (λ x _. one x (position x (buddy_of l).first (length_of l)))
       ∙ sum_below_span c (buddy_of l).first (length_of l) q.buddy.within)
@@ -141,7 +141,7 @@ module _ (c : ℕ) (w : Layout) (l u : Section) (r : List Section) (wh : Whole c
       off : (x : ℕ) → in_range x (buddy_of l).first (length_of l) ≡ 0
           → sum_of (holds_block x) in_buddy ≡ in_range x (buddy_of l).first (length_of l)
       off x z =
-          inside_only (buddy_of l) x z (each-imp (λ s p. p.1) (each_inside (buddy_of l) q.free)) ∙ sym z
+          inside_only (buddy_of l) x z (each_imp (λ s p. p.1) (each_inside (buddy_of l) q.free)) ∙ sym z
 
       one : (x : ℕ) → Position x (buddy_of l).first (length_of l)
           → sum_of (holds_block x) in_buddy ≡ in_range x (buddy_of l).first (length_of l)
@@ -149,7 +149,7 @@ module _ (c : ℕ) (w : Layout) (l u : Section) (r : List Section) (wh : Whole c
           let i : (buddy_of l).first + (x - (buddy_of l).first) ≡ x = omega arith in
           let free = ltb-false 0 (sum_of (holds_block x) (file_pieces w.files))
           (ap (is_held w.files) (sym i) ∙ none (x - (buddy_of l).first) (omega arith)) in
-          inside_holds (buddy_of l) x lo hi (each-imp (λ s p. p.0) (each_right (file_pieces w.files) r q.movable))
+          inside_holds (buddy_of l) x lo hi (each_imp (λ s p. p.0) (each_right (file_pieces w.files) r q.movable))
           ∙ omega (
             arith,
             free,
@@ -173,11 +173,11 @@ module _ (c : ℕ) (w : Layout) (l u : Section) (r : List Section) (wh : Whole c
       go (suc n) e = omega arith
 
 -- of two at the lowest height that has two
-pub merge-copies_some : (c : ℕ) (w : Layout) (l u : Section) (r : List Section) → Whole c w
+pub merge_copies_some : (c : ℕ) (w : Layout) (l u : Section) (r : List Section) → Whole c w
     → ((j : ℕ) → j < l.height.value → count_of j w.free ≤ 1)
     → merge_pair l.height.value w.free ≡ pair l u r → ((buddy_of l).first ≡ u.first → ⊥)
     → 1 ≤ length (merge l u r w).copies
-merge-copies_some c w l u r wh low e ne =
+merge_copies_some c w l u r wh low e ne =
     some_copied c w l u r wh
     (subst (MergeableOf l.height.value w.free) e (merge_pair_is l.height.value w.free wh.rising)) low
     (subst (LowestOf l.height.value) (lowest_unless_buddies l.height.value w.free e ne)

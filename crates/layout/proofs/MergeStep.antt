@@ -7,13 +7,13 @@ use Prim.Native.Nat.{◌+◌, ◌<◌, ◌^◌, ◌≤◌, suc, ℕ}
 use native.Mathlib.Omega.{arith}
 use lib.Dec.{leb, ltb}
 use borrow.Author.Tests.{le-leb, le-ltb, leb-true, lt-leb, lt-ltb, ltb-true}
-use Rattle.layout.proofs.Lists.{each_append, each-head, each-imp, each-insert, each_left, each_right}
-use Rattle.layout.proofs.Lists.{each-sort, each_tail, length-sum, map-append, sum-append, sum_insert}
+use Rattle.layout.proofs.Lists.{each_append, each_head, each_imp, each_insert, each_left, each_right}
+use Rattle.layout.proofs.Lists.{each_sort, each_tail, length-sum, map-append, sum-append, sum_insert}
 use Rattle.layout.proofs.Lists.{sum-map, sum_sort}
 use Rattle.layout.proofs.MergeKeeps.{copies-le}
 use Rattle.layout.proofs.MergeParts.{merge_parts}
 use Rattle.layout.proofs.Merging.{merge_covers, merge_on_disk}
-use Rattle.layout.proofs.MergingCopies.{merge-apart, merge-copies_rise, merge-files, merge_reach}
+use Rattle.layout.proofs.MergingCopies.{merge-apart, merge_copies_rise, merge-files, merge_reach}
 use Rattle.layout.proofs.MergingCopies.{merge_sources_held, merge_targets_held}
 use Rattle.layout.proofs.MovedPieces.{count_moved, pieces_moved, section_eta, sum_moved}
 use Rattle.layout.proofs.Ranges.{in_range_inside, in_range-le-one}
@@ -72,8 +72,8 @@ module _ (c h a v : ℕ) (w : Layout) (r : List Section) (wh : Whole c w)
   merge_whole = record {
     disk =
         each_append {l = files'} (each_left files' rest' (each_tail moved-disk))
-        (each-insert by_first (section (parent_first h a) (suc h)) (each-head moved-disk)
-        (each-sort by_first (each_right files' rest' (each_tail moved-disk))));
+        (each_insert by_first (section (parent_first h a) (suc h)) (each_head moved-disk)
+        (each_sort by_first (each_right files' rest' (each_tail moved-disk))));
     rising = insert_rising (section (parent_first h a) (suc h)) (sort_rising rest');
     covers = λ x. omega (
       arith,
@@ -98,7 +98,7 @@ module _ (c h a v : ℕ) (w : Layout) (r : List Section) (wh : Whole c w)
   merge_into_free = record {
     into = among;
     each =
-        each-imp (λ x q. (off_among x.source q.0, in_among x.target q.1))
+        each_imp (λ x q. (off_among x.source q.0, in_among x.target q.1))
         (merge-apart c h a v w r parts);
     vacant = empty;
   }
@@ -170,7 +170,7 @@ module _ (c h a v : ℕ) (w : Layout) (r : List Section) (wh : Whole c w)
     );
     few = copies-le (is_held w.files) h (buddy_first h a) v;
     reach = merge_reach c h a v w r parts;
-    rise = merge-copies_rise c h a v w r parts;
+    rise = merge_copies_rise c h a v w r parts;
     held = merge_sources_held c h a v w r parts;
     filled = merge_targets_held c h a v w r parts;
     apart = merge_into_free;

@@ -10,7 +10,7 @@ use native.Mathlib.Omega.{arith}
 use lib.Dec.{eqb}
 use lib.Pow.{pow-lt, pow_pos}
 use borrow.Author.Tests.{eqb-false, eqb-true}
-use Rattle.layout.proofs.Lists.{each_and, each-imp, each_map, sum-ge-all}
+use Rattle.layout.proofs.Lists.{each_and, each_imp, each_map, sum_ge_all}
 use Rattle.layout.proofs.Moving.{Carried, carry, move_covers}
 use Rattle.layout.proofs.Ranges.{in_range-apart, in_range-halves, in_range-le-one, within}
 use Rattle.layout.specs.Covering.{Covers}
@@ -18,8 +18,8 @@ use Rattle.layout.specs.Layout.{OnDisk, holds_block, in_range}
 use Rattle.layout.specs.Lists.{Each, more, sum_of}
 use Rattle.layout.specs.Moves.{Movable, SameOrApart, left, moving, same}
 use Rattle.section.proofs.Answers.{inside_iff}
-use Rattle.section.proofs.Buddies.{buddy_aligned, buddy-apart, buddy_inside, buddy-of_lower, halves, parent_aligned}
-use Rattle.section.proofs.Moves.{moved_aligned, moved-apart_stays, moved_inside}
+use Rattle.section.proofs.Buddies.{buddy_aligned, buddy-apart, buddy_inside, buddy_of_lower, halves, parent_aligned}
+use Rattle.section.proofs.Moves.{moved_aligned, moved_apart_stays, moved_inside}
 use Rattle.section.proofs.Multiples.{below_or_not, length_double, multiple_gap, multiple_sum}
 use Rattle.section.specs.Nesting.{Halves, Placed, after, before, inside, lower, upper}
 use Rattle.section.specs.Sections.{Apart, Within, buddy_first, end_of, length_of, parent_first, section}
@@ -62,7 +62,7 @@ module _ (c h a v : ℕ) (order : a ≤ v) (ld : OnDisk c (section a h)) (ud : O
       go (upper e f) t q = (left (omega (arith, lower_below)), omega (arith, lower_below))
 
   pub buddy_on_disk : buddy_first h a + 2 ^ h ≤ c
-  buddy_on_disk = buddy-of_lower h a v c ld.aligned ud.aligned (omega (arith, lower_below, pos)) ud.within
+  buddy_on_disk = buddy_of_lower h a v c ld.aligned ud.aligned (omega (arith, lower_below, pos)) ud.within
 
   -- the section that the lower one and its buddy make is on the disk
   pub parent_on_disk : OnDisk c (section (parent_first h a) (suc h))
@@ -114,10 +114,10 @@ module _ (c h a v : ℕ) (order : a ≤ v) (ld : OnDisk c (section a h)) (ud : O
           inside w.0 w.1
 
   pub movable : Each (Movable h (buddy_first h a) v) others
-  movable = each-imp (λ s p. movable_one s p.0 p.1) (each_and od (sum-ge-all holds_block others))
+  movable = each_imp (λ s p. movable_one s p.0 p.1) (each_and od (sum_ge_all holds_block others))
 
   pub carried : Each (Carried h (buddy_first h a) v) others
-  carried = each-imp (λ s p. carry h (buddy_first h a) v s p) movable
+  carried = each_imp (λ s p. carry h (buddy_first h a) v s p) movable
 
   apart_placed : Apart a (2 ^ h) (buddy_first h a) (2 ^ h) → Placed a (2 ^ h) (buddy_first h a) (2 ^ h)
   apart_placed (inl p) = before p
@@ -130,7 +130,7 @@ module _ (c h a v : ℕ) (order : a ≤ v) (ld : OnDisk c (section a h)) (ud : O
       let all : Each (Movable h (buddy_first h a) v) (section a h ∷ others) =
       more {a = section a h} (apart_placed b, inl lower_below) movable in
       let stays =
-      ap (holds_block x) (moved-apart_stays (section (buddy_first h a) h) (section v h) (section a h) b) in
+      ap (holds_block x) (moved_apart_stays (section (buddy_first h a) h) (section v h) (section a h) b) in
       omega (
         arith,
         move_covers h (buddy_first h a) v c buddy_below.0 buddy_on_disk ud.within all
@@ -142,14 +142,14 @@ module _ (c h a v : ℕ) (order : a ≤ v) (ld : OnDisk c (section a h)) (ud : O
   pub merge_on_disk : Each (OnDisk c) (section (parent_first h a) (suc h) ∷ map (moving h (buddy_first h a) v) others)
   merge_on_disk =
       more parent_on_disk
-      (each_map (moving h (buddy_first h a) v) (each-imp (λ s p. go s p.0 p.1.0) (each_and od movable)))
+      (each_map (moving h (buddy_first h a) v) (each_imp (λ s p. go s p.0 p.1.0) (each_and od movable)))
     where
       b : Section
       b = section (buddy_first h a) h
 
       stay : (s : Section) → OnDisk c s → Apart s.first (length_of s) (buddy_first h a) (2 ^ h)
           → OnDisk c (moving h (buddy_first h a) v s)
-      stay s d o = subst (OnDisk c) (sym (moved-apart_stays (section (buddy_first h a) h) (section v h) s o)) d
+      stay s d o = subst (OnDisk c) (sym (moved_apart_stays (section (buddy_first h a) h) (section v h) s o)) d
 
       go : (s : Section) → OnDisk c s → Placed s.first (length_of s) (buddy_first h a) (2 ^ h)
           → OnDisk c (moving h (buddy_first h a) v s)

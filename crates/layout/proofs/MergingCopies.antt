@@ -9,7 +9,7 @@ use native.Mathlib.Omega.{arith}
 use lib.Dec.{ltb}
 use borrow.Author.Tests.{lt-ltb}
 use Rattle.layout.proofs.FilesMoved.{Goes, files-moved}
-use Rattle.layout.proofs.Lists.{each_and, each-imp, each_left, sum-ge-all}
+use Rattle.layout.proofs.Lists.{each_and, each_imp, each_left, sum_ge_all}
 use Rattle.layout.proofs.MergeCopies.{MergeCopy, merge-origin, merge_within}
 use Rattle.layout.proofs.MovedPieces.{pieces_moved}
 use Rattle.layout.proofs.Moving.{carry, move_holds}
@@ -22,7 +22,7 @@ use Rattle.layout.specs.Merges.{InDisk, Moved, origin}
 use Rattle.layout.specs.Moves.{MergeParts, Movable, SameOrApart, left, moving, right, run_or_none, same}
 use Rattle.layout.specs.Removing.{Copy, is_held, moved_file}
 use Rattle.section.proofs.Answers.{inside_iff}
-use Rattle.section.proofs.Moves.{moved-apart_stays, moved_inside}
+use Rattle.section.proofs.Moves.{moved_apart_stays, moved_inside}
 use Rattle.section.specs.Nesting.{Placed, after, before, inside}
 use Rattle.section.specs.Sections.{Apart, buddy_first, length_of, section}
 use Rattle.section.specs.declared.Section.{Section}
@@ -54,7 +54,7 @@ module _ (c h a v : ℕ) (w : Layout) (r : List Section) (q : MergeParts c w (se
           → s.first ≤ (moving h (buddy_first h a) v s).first
       stays s o = omega (
         arith,
-        ap (λ (t : Section). t.first) (moved-apart_stays (section (buddy_first h a) h) (section v h) s o),
+        ap (λ (t : Section). t.first) (moved_apart_stays (section (buddy_first h a) h) (section v h) s o),
       )
 
       up : (s : Section) → Placed s.first (length_of s) (buddy_first h a) (2 ^ h)
@@ -83,17 +83,17 @@ module _ (c h a v : ℕ) (w : Layout) (r : List Section) (q : MergeParts c w (se
 
       goes : Each (Goes copies (moving h (buddy_first h a) v)) (file_pieces w.files)
       goes =
-          each-imp (λ s p. (
+          each_imp (λ s p. (
             (λ i lt. ap (origin copies) (carry h (buddy_first h a) v s p.1 i lt)
                 ∙ merge-origin (is_held w.files) h (buddy_first h a) v q.place (s.first + i)
                 (held s p.0 i lt) (off_one s i lt p.1.1)),
             up s p.1.0,
           ))
-          (each_and (sum-ge-all holds_block (file_pieces w.files)) movable)
+          (each_and (sum_ge_all holds_block (file_pieces w.files)) movable)
 
   pub merge_reach : Each (InDisk c) copies
   merge_reach =
-      each-imp (λ x k. record {
+      each_imp (λ x k. record {
         source = omega (arith, k.run.from, k.run.less, q.buddy.within);
         target = omega (arith, k.run.to, k.run.less, q.upper.within);
       })
@@ -101,11 +101,11 @@ module _ (c h a v : ℕ) (w : Layout) (r : List Section) (q : MergeParts c w (se
 
   -- every block that is copied is held by a file before the merge
   pub merge_sources_held : Each (λ (x : Copy). is_held w.files x.source ≡ true) copies
-  merge_sources_held = each-imp (λ x k. k.held) within
+  merge_sources_held = each_imp (λ x k. k.held) within
 
   -- and the block that it is copied to after it: blocks that stay free are not written
   pub merge_targets_held : Each (λ (x : Copy). is_held files' x.target ≡ true) copies
-  merge_targets_held = each-imp (λ x k. ap (λ n. ltb 0 n) (sums x k.run) ∙ k.held) within
+  merge_targets_held = each_imp (λ x k. ap (λ n. ltb 0 n) (sums x k.run) ∙ k.held) within
     where
       back : (x : Copy) → InRun (buddy_first h a) v (2 ^ h) x
           → swap (buddy_first h a) v (2 ^ h) x.target ≡ x.source
@@ -129,7 +129,7 @@ module _ (c h a v : ℕ) (w : Layout) (r : List Section) (q : MergeParts c w (se
   pub merge-apart :
       Each (λ x. Apart x.source 1 v (2 ^ h) × ((v ≤ x.target) × (x.target < v + 2 ^ h))) copies
   merge-apart =
-      each-imp
+      each_imp
       (λ x k. (
         off q.place x k.run k.other,
         (omega (arith, k.run.to), omega (arith, k.run.to, k.run.less)),
@@ -143,9 +143,9 @@ module _ (c h a v : ℕ) (w : Layout) (r : List Section) (q : MergeParts c w (se
       off (right p) x k n = inr (omega (arith, k.from, k.less))
 
   -- and every copy goes to a higher block
-  pub merge-copies_rise : Each (λ (x : Copy). x.source < x.target) copies
-  merge-copies_rise =
-      each-imp
+  pub merge_copies_rise : Each (λ (x : Copy). x.source < x.target) copies
+  merge_copies_rise =
+      each_imp
       (λ x k. omega (
         arith,
         k.run.from,

@@ -6,14 +6,14 @@ use mathlib.Core.Logic.{inl, inr}
 use mathlib.Core.Path.{◌∙◌, ◌≡◌, ap, sym}
 use Prim.Native.Nat.{◌+◌, ◌<◌, ◌^◌, ◌≤◌, ℕ}
 use native.Mathlib.Omega.{arith}
-use Rattle.layout.proofs.Lists.{each-imp, sum_cong, sum-map}
+use Rattle.layout.proofs.Lists.{each_imp, sum_cong, sum-map}
 use Rattle.layout.proofs.Ranges.{in_range_above, in_range_below, in_range_carried}
 use Rattle.layout.proofs.Swaps.{swap, swap-disk, swap-first, swap_off, swap-second, swap-swap}
 use Rattle.layout.specs.Layout.{holds_block, in_range}
 use Rattle.layout.specs.Lists.{Each, sum_of}
 use Rattle.layout.specs.Moves.{Movable, SameOrApart, left, moving, right, same}
 use Rattle.section.proofs.Answers.{inside_iff}
-use Rattle.section.proofs.Moves.{moved-apart_stays, moved-height, moved_inside}
+use Rattle.section.proofs.Moves.{moved_apart_stays, moved-height, moved_inside}
 use Rattle.section.specs.Nesting.{Placed, after, before, inside}
 use Rattle.section.specs.Sections.{Apart, end_of, is_inside, length_of, section}
 use Rattle.section.specs.declared.Section.{Section}
@@ -40,7 +40,7 @@ module _ (h b v : ℕ) where
 
       stay : Apart s.first (length_of s) b (2 ^ h) → (moving h b v s).first + i ≡ swap b v (2 ^ h) (s.first + i)
       stay q =
-          ap (λ (t : Section). t.first + i) (moved-apart_stays (section b h) (section v h) s q)
+          ap (λ (t : Section). t.first + i) (moved_apart_stays (section b h) (section v h) s q)
           ∙ sym (swap_off b v (2 ^ h) (s.first + i) (off_one b (2 ^ h) q) (off_one v (2 ^ h) o))
 
       go : Placed s.first (length_of s) b (2 ^ h) → (moving h b v s).first + i ≡ swap b v (2 ^ h) (s.first + i)
@@ -59,7 +59,7 @@ module _ (h b v : ℕ) where
     move_holds x =
         sum-map (holds_block x) (moving h b v) others
         ∙ sum_cong (λ s. holds_block x (moving h b v s)) (λ s. holds_block (swap b v (2 ^ h) x) s)
-        (each-imp (λ s p. one s (carry s p)) all)
+        (each_imp (λ s p. one s (carry s p)) all)
       where
         one : (s : Section) → Carried s → holds_block x (moving h b v s) ≡ holds_block (swap b v (2 ^ h) x) s
         one s k =

@@ -7,7 +7,7 @@ use Prim.Native.Nat.{◌%◌, ℕ}
 use native.Mathlib.Omega.{arith}
 use lib.Pow.{pow_pos}
 use Rattle.layout.proofs.BuddyPairs.{no_buddies_left}
-use Rattle.layout.proofs.Lists.{each_and, each-given, each-imp, each-swap}
+use Rattle.layout.proofs.Lists.{each_and, each_given, each_imp, each_swap}
 use Rattle.layout.specs.Choices.{BuddyAbove}
 use Rattle.layout.specs.Layout.{OnDisk}
 use Rattle.layout.specs.Lists.{Each}
@@ -39,11 +39,11 @@ pub no_two_buddies : (c h : ℕ) (free : List Section) → Each (OnDisk c) free 
     → Each (λ (l : Section). Each (λ (u : Section). l.height.value ≡ h → u.height.value ≡ h
     → (buddy_of l).first ≡ u.first → ⊥) free) free
 no_two_buddies c h free disk e =
-    each-imp (λ l p. each-imp (λ u q. one l u p.0 q.0 q.1) (each_and p.1.0 p.1.1))
-    (each_and disk (each_and above (each-swap free above)))
+    each_imp (λ l p. each_imp (λ u q. one l u p.0 q.0 q.1) (each_and p.1.0 p.1.1))
+    (each_and disk (each_and above (each_swap free above)))
   where
     above : Each (λ (l : Section). Each (λ (u : Section). l.height.value ≡ h → BuddyAbove l u → ⊥) free) free
-    above = each-imp (λ l p. each-given free p) (no_buddies_left h free e)
+    above = each_imp (λ l p. each_given free p) (no_buddies_left h free e)
 
     one : (l u : Section) → OnDisk c l → (l.height.value ≡ h → BuddyAbove l u → ⊥)
         → (u.height.value ≡ h → BuddyAbove u l → ⊥)

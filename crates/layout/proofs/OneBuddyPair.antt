@@ -8,7 +8,7 @@ use native.Mathlib.Omega.{arith}
 use borrow.Author.Tests.{eqb-true}
 use Rattle.layout.proofs.BuddyPairs.{buddy_above, not_above_lem, upper_no_buddy}
 use Rattle.layout.proofs.FreeBuddies.{found_behind, found_next, free_in_order}
-use Rattle.layout.proofs.Lists.{each_all, each-imp, sum_cong}
+use Rattle.layout.proofs.Lists.{each_all, each_imp, sum_cong}
 use Rattle.layout.proofs.LoopTurns.{at-height, at_height}
 use Rattle.layout.proofs.Splitting.{of_height_same}
 use Rattle.layout.proofs.Taking.{take_first-none}
@@ -33,7 +33,7 @@ module _ (h : ℕ) where
       ap₂ (λ m n. m + n)
       (ap (λ t. indicator (has_height h a && t)) (found_behind (is_buddy_above a) a l (not_above_lem a a (omega arith))))
       (sum_cong (λ s. indicator (has_free_buddy h (a ∷ l) s)) (λ s. indicator (has_free_buddy h l s))
-      (each-imp (λ s q. ap (λ t. indicator (has_height h s && t))
+      (each_imp (λ s q. ap (λ t. indicator (has_height h s && t))
       (found_behind (is_buddy_above s) a l (not_above_lem s a (omega arith)))) e))
 
   -- one that has no buddy behind it adds none

@@ -8,7 +8,7 @@ use native.Mathlib.Omega.{arith}
 use lib.Dec.{eqb}
 use borrow.Author.Tests.{eq-eqb, ne_eqb}
 use Rattle.layout.proofs.CopiesFrom.{each_from, from_failed, from_passed}
-use Rattle.layout.proofs.Lists.{each-imp}
+use Rattle.layout.proofs.Lists.{each_imp}
 use Rattle.layout.specs.Lists.{Each, done, more}
 use Rattle.layout.specs.Merges.{origin}
 use Rattle.layout.specs.Removing.{Copy, copies_from, copy_run}
@@ -40,7 +40,7 @@ copy_run_in_run b u zero = done
 copy_run_in_run b u (suc n) =
     more {a = record { source = b; target = u }}
     (record { at = 0; less = omega arith; from = omega arith; to = omega arith })
-    (each-imp (λ c w. later c w) (copy_run_in_run (suc b) (suc u) n))
+    (each_imp (λ c w. later c w) (copy_run_in_run (suc b) (suc u) n))
   where
     later : (c : Copy) → InRun (suc b) (suc u) n c → InRun b u (suc n) c
     later c w = record {
@@ -74,7 +74,7 @@ origin_from p (suc n) b u o i q t =
 
     first : origin (copies_from p (copy_run (suc b) (suc u) n)) u ≡ u
     first =
-        origin_off u (each-imp (λ c w z. omega (arith, w.0.to)) (each_from p (copy_run_in_run (suc b) (suc u) n)))
+        origin_off u (each_imp (λ c w z. omega (arith, w.0.to)) (each_from p (copy_run_in_run (suc b) (suc u) n)))
 
     go : (s : Bool) → p b ≡ s → (i : ℕ) → i < suc n → p (b + i) ≡ true
         → ((j : ℕ) → j < n → p (suc b + j) ≡ true

@@ -5,7 +5,7 @@ use Prim.Native.Nat.{◌<◌, suc, zero, ℕ}
 use native.Mathlib.Omega.{arith}
 use lib.ListN.{drop, length, take}
 use lib.Seq.{drop_at, take_at}
-use Rattle.layout.proofs.Lists.{each-imp}
+use Rattle.layout.proofs.Lists.{each_imp}
 use Rattle.layout.specs.Layout.{File, Layout, block_run, blocks_of}
 use Rattle.layout.specs.Lists.{Each, Pairwise, next}
 use Rattle.layout.specs.Sound.{Sound}
@@ -36,7 +36,7 @@ pub first_piece_longest : (k : ℕ) (l : Layout) → Sound k l
     (λ (f : File). (s : Section) (r : List Section) → f.pieces ≡ s ∷ r
     → Each (λ (t : Section). length_of t < length_of s) r)
     l.files
-first_piece_longest k l sound = each-imp (λ f p s r e. go f.pieces p s r e) sound.page_order
+first_piece_longest k l sound = each_imp (λ f p s r e. go f.pieces p s r e) sound.page_order
   where
     go : (m : List Section) → Pairwise (λ (s t : Section). length_of t < length_of s) m
         → (s : Section) (r : List Section) → m ≡ s ∷ r

@@ -9,7 +9,7 @@ use lib.Count.{ones}
 use lib.ListN.{length}
 use lib.Pow.{pow_mono}
 use Rattle.layout.proofs.Allocating.{mod-digit}
-use Rattle.layout.proofs.Ones.{at_most_one-distinct, at_most_one-ones, distinct-ones}
+use Rattle.layout.proofs.Ones.{at_most_one_distinct, at_most_one_ones, distinct-ones}
 use Rattle.layout.specs.Layout.{OnePiecePerOne, block_count, digit, of_height}
 use Rattle.layout.specs.Lists.{Pairwise, done, more, next, none, sum_of}
 use Rattle.section.proofs.Multiples.{length_double}
@@ -40,23 +40,23 @@ module _ (n : ℕ) (l : List Section) (per : OnePiecePerOne n l) where
   at_most_one h = omega (arith, per h, mod-lt (n / 2 ^ h) {m = 2} (omega arith))
 
   -- no two are equally long
-  pub per_one-distinct : Pairwise (λ (s t : Section). length_of s ≡ length_of t → ⊥) l
-  per_one-distinct = at_most_one-distinct l at_most_one
+  pub per_one_distinct : Pairwise (λ (s t : Section). length_of s ≡ length_of t → ⊥) l
+  per_one_distinct = at_most_one_distinct l at_most_one
 
   -- they sum to n
-  pub per_one-sum : block_count l ≡ n
-  per_one-sum = same_digits (block_count l) n (λ h. sym (distinct-ones (block_count l) l per_one-distinct refl h) ∙ per h)
+  pub per_one_sum : block_count l ≡ n
+  per_one_sum = same_digits (block_count l) n (λ h. sym (distinct-ones (block_count l) l per_one_distinct refl h) ∙ per h)
 
   -- they are as many as the ones of n
   pub per_one_count : length l ≡ ones n
-  per_one_count = at_most_one-ones l at_most_one ∙ ap ones per_one-sum
+  per_one_count = at_most_one_ones l at_most_one ∙ ap ones per_one_sum
 
 -- ---- in literal numbers
 
 -- 32 blocks are one section of height 5, and seven are three
-pub per_one-of_cases : OnePiecePerOne 32 (section 0 5 ∷ [])
+pub per_one_of_cases : OnePiecePerOne 32 (section 0 5 ∷ [])
     × OnePiecePerOne 7 (section 0 2 ∷ section 14 1 ∷ section 13 0 ∷ [])
-per_one-of_cases = (
+per_one_of_cases = (
   distinct-ones 32 (section 0 5 ∷ []) (next done none) refl,
   distinct-ones 7 (section 0 2 ∷ section 14 1 ∷ section 13 0 ∷ [])
       (next {a = section 0 2} (more {a = section 14 1} (λ e. omega arith) (more {a = section 13 0} (λ e. omega arith) done))
@@ -65,6 +65,6 @@ per_one-of_cases = (
 )
 
 -- they are not two of height 4, nor none
-pub not_per_one-of_cases : (OnePiecePerOne 32 (section 0 4 ∷ section 16 4 ∷ []) → ⊥) × (OnePiecePerOne 32 [] → ⊥)
+pub not_per_one_of_cases : (OnePiecePerOne 32 (section 0 4 ∷ section 16 4 ∷ []) → ⊥) × (OnePiecePerOne 32 [] → ⊥)
 unfolding of_height
-not_per_one-of_cases = (λ p. omega (arith, p 5), λ p. omega (arith, p 5))
+not_per_one_of_cases = (λ p. omega (arith, p 5), λ p. omega (arith, p 5))

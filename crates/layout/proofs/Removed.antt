@@ -10,7 +10,7 @@ use Rattle.layout.proofs.Digits.{counts_are_digits}
 use Rattle.layout.proofs.FilesMoved.{moved_shapes}
 use Rattle.layout.proofs.Finding.{find_each, find_id, find_ids, find_length, find_shapes, find_sum}
 use Rattle.layout.proofs.Finding.{find_without}
-use Rattle.layout.proofs.Lists.{each_append, each-imp, each-insert, each_left, each_right, sum-append}
+use Rattle.layout.proofs.Lists.{each_append, each_imp, each_insert, each_left, each_right, sum-append}
 use Rattle.layout.proofs.Lists.{sum_insert}
 use Rattle.layout.proofs.MergeAll.{merge_all_is, merged_blocks, merged_files, merged_thin}
 use Rattle.layout.proofs.MergeAll.{merged_whole}
@@ -35,7 +35,7 @@ each_insert_all : {P : Section → Type 0} {s : List Section} (free : List Secti
     → Each P (insert_all s free)
 unfolding insert_all
 each_insert_all free done q = q
-each_insert_all free (more {a = a} p e) q = each-insert by_first a p (each_insert_all free e q)
+each_insert_all free (more {a = a} p e) q = each_insert by_first a p (each_insert_all free e q)
 
 rising-insert_all : (s : List Section) {free : List Section} → Rising free → Rising (insert_all s free)
 unfolding insert_all
@@ -82,9 +82,9 @@ module _ (K i : ℕ) (l : Layout) (f : File) (r : List File) (g : SoundSums K l)
       omega (
         arith,
         sum-insert_all (of_height j) f.pieces l.free,
-        counts_are_digits 2 (omega arith) K (each-imp (λ s d. height-lt l.blocks K g.top s d) filed.0)
+        counts_are_digits 2 (omega arith) K (each_imp (λ s d. height-lt l.blocks K g.top s d) filed.0)
             (λ h. omega (arith, falling_thin (falling-of f.pieces (find_shapes x g.shapes).0.falling) h)) j,
-        counts_are_digits 2 (omega arith) K (each-imp (λ s d. height-lt l.blocks K g.top s d) release-disk)
+        counts_are_digits 2 (omega arith) K (each_imp (λ s d. height-lt l.blocks K g.top s d) release-disk)
             (λ h. omega (arith, g.thin h)) j,
         ap (λ z. z / 2 ^ j % 2) (free_is K l g),
       )

@@ -10,7 +10,7 @@ use Rattle.section.specs.Sections.{length_of}
 use Rattle.section.specs.declared.Section.{Section}
 use Rattle.layout.proofs.FilesMoved.{moved_shapes}
 use Rattle.layout.proofs.Finding.{find_length, find_sum}
-use Rattle.layout.proofs.Lists.{each-imp}
+use Rattle.layout.proofs.Lists.{each_imp}
 use Rattle.layout.proofs.Removed.{removal_keeps}
 use Rattle.layout.proofs.SoundSums.{free_size, pieces_size}
 use Rattle.layout.specs.Layout.{File, Layout, file_blocks, find_file, free_blocks, has_file}
@@ -56,7 +56,7 @@ none_missing i [] (f ∷ fs) e n = absurd (let z : ◌≡◌ {A = ℕ} 0 1 = cc 
 -- no other file has the id of one that was found
 pub find_gone : {i : ℕ} {l r : List File} {f : File} → Find i l f r → RisingIds (map shape l)
     → Each (λ (s : Shape). s.id ≡ i → ⊥) (map shape r)
-find_gone (here e) (next p q) = each-imp (λ s b h. omega (arith, b, e, h)) p
+find_gone (here e) (next p q) = each_imp (λ s b h. omega (arith, b, e, h)) p
 find_gone (there n x) (next p q) = more n (find_gone x q)
 
 -- ---- the removal

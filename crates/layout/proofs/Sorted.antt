@@ -5,8 +5,8 @@ use mathlib.Core.List.Memᴰ
 use mathlib.Core.List.{List, Memᴰ, ◌∷◌}
 use mathlib.Core.Logic.{◌⊎◌, inl, inr}
 use mathlib.Core.Path.{◌∙◌, ◌≡◌, ap₂, refl, subst, sym}
-use Rattle.layout.proofs.Lists.{each_and, each-head, each-imp, each-insert, each-sort}
-use Rattle.layout.specs.Lists.{Each, Pairwise, done, insertBy, more, next, none, sortBy}
+use Rattle.layout.proofs.Lists.{each_and, each_head, each_imp, each_insert, each_sort}
+use Rattle.layout.specs.Lists.{Each, Pairwise, done, insert_by, more, next, none, sort_by}
 
 module _ {ℓ} {A : Type ℓ} where
   pub pairwise_and : {R S : A → A → Type 0} {l : List A} → Pairwise R l → Pairwise S l
@@ -17,29 +17,30 @@ module _ {ℓ} {A : Type ℓ} where
   -- what every element has both of any two have
   pub pairwise_each : {P : A → Type 0} {l : List A} → Each P l → Pairwise (λ a b. P a × P b) l
   pairwise_each done = none
-  pairwise_each (more p e) = next (each-imp (λ b q. (p, q)) e) (pairwise_each e)
+  pairwise_each (more p e) = next (each_imp (λ b q. (p, q)) e) (pairwise_each e)
 
   -- what every element has a member has
   pub each_member : {P : A → Type 0} {a : A} {l : List A} → Each P l → Memᴰ a l → P a
   each_member {P} (more p e) (Memᴰ.head s) = subst P (sym s) p
   each_member (more p e) (Memᴰ.tail m) = each_member e m
+  each_member {P = P} {a = a} done m = elim m [ ]
 
   -- what holds of every two in both orders still holds when they are sorted
   module _ {R : A → A → Type 0} (both : (a b : A) → R a b → R b a) (le : A → A → Bool) where
-    pub pairwise_insert : (a : A) {l : List A} → Each (R a) l → Pairwise R l → Pairwise R (insertBy le a l)
-    unfolding insertBy
+    pub pairwise_insert : (a : A) {l : List A} → Each (R a) l → Pairwise R l → Pairwise R (insert_by le a l)
+    unfolding insert_by
     pairwise_insert a done none = next done none
     pairwise_insert a (more {a = b} {l = l} x xs) (next p q) =
         elim (le a b) as
-        (λ t. Pairwise R (elim t as (λ _. List A) [ true ↦ a ∷ b ∷ l | false ↦ b ∷ insertBy le a l ])) [
+        (λ t. Pairwise R (elim t as (λ _. List A) [ true ↦ a ∷ b ∷ l | false ↦ b ∷ insert_by le a l ])) [
           | true ↦ next (more x xs) (next p q)
-          | false ↦ next (each-insert le a (both a b x) p) (pairwise_insert a xs q)
+          | false ↦ next (each_insert le a (both a b x) p) (pairwise_insert a xs q)
         ]
 
-    pub pairwise_sort : {l : List A} → Pairwise R l → Pairwise R (sortBy le l)
-    unfolding sortBy
+    pub pairwise_sort : {l : List A} → Pairwise R l → Pairwise R (sort_by le l)
+    unfolding sort_by
     pairwise_sort none = none
-    pairwise_sort (next {a = a} p q) = pairwise_insert a (each-sort le p) (pairwise_sort q)
+    pairwise_sort (next {a = a} p q) = pairwise_insert a (each_sort le p) (pairwise_sort q)
 
   -- a strict order and the same members leave one list only
   module _ (R : A → A → Type 0) (strict : (a b : A) → R a b → R b a → ⊥) where
@@ -53,7 +54,7 @@ module _ {ℓ} {A : Type ℓ} where
     -- members of the other list behind its first
     rest_members : {a b : A} {l m : List A} → a ≡ b → Each (R a) l → Each (λ c. Memᴰ c (b ∷ m)) l
         → Each (λ c. Memᴰ c m) l
-    rest_members {a} {b} {l} {m} s p x = each-imp (λ c h. go c h.0 (Memᴰ.cases_cons h.1)) (each_and p x)
+    rest_members {a} {b} {l} {m} s p x = each_imp (λ c h. go c h.0 (Memᴰ.cases_cons h.1)) (each_and p x)
       where
         go : (c : A) → R a c → (c ≡ b) ⊎ Memᴰ c m → Memᴰ c m
         go c r (inl e) = let t = subst (λ z. R a z) (e ∙ sym s) r in absurd (strict a a t t)
@@ -62,8 +63,8 @@ module _ {ℓ} {A : Type ℓ} where
     pub sorted_same : {l m : List A} → Pairwise R l → Pairwise R m → Each (λ a. Memᴰ a m) l
         → Each (λ a. Memᴰ a l) m → l ≡ m
     sorted_same none none done done = refl
-    sorted_same none (next p q) done y = absurd (Memᴰ.not-nil (each-head y))
-    sorted_same (next p q) none x done = absurd (Memᴰ.not-nil (each-head x))
+    sorted_same none (next p q) done y = absurd (Memᴰ.not-nil (each_head y))
+    sorted_same (next p q) none x done = absurd (Memᴰ.not-nil (each_head x))
     sorted_same (next p q) (next r s) (more x xs) (more y ys) =
         let e = first_same p r (Memᴰ.cases_cons x) (Memᴰ.cases_cons y) in
         ap₂ (λ a l. a ∷ l) e (sorted_same q s (rest_members e p xs) (rest_members (sym e) r ys))

@@ -8,7 +8,7 @@ use native.Mathlib.Nat.{mod-one}
 use native.Mathlib.Omega.{arith}
 use lib.Count.{ones, ones_in}
 use Rattle.layout.proofs.Fresh.{fresh_sound}
-use Rattle.layout.proofs.Lists.{each-imp}
+use Rattle.layout.proofs.Lists.{each_imp}
 use Rattle.layout.proofs.Soundness.{sums_sound}
 use Rattle.layout.specs.Layout.{File, file_pieces, fresh_layout, pieces_from}
 use Rattle.layout.specs.Lists.{Each, Pairwise, done, more, next, none}
@@ -26,10 +26,10 @@ abbrev seven : File
 seven = file 7 (section 4 1 ∷ [])
 
 -- id 1 has 5 blocks, (0,4) and (6,1), id 7 has (4,2), and (7,1) and (8,8) are free
-pub sixteen-blocks_sound :
+pub sixteen_blocks_sound :
     Sound 13 (record { blocks = 16; files = one ∷ seven ∷ []; free = section 7 0 ∷ section 8 3 ∷ [] })
 unfolding file_pieces ones ones_in
-sixteen-blocks_sound = record {
+sixteen_blocks_sound = record {
   some_blocks = omega arith;
   most_blocks = omega arith;
   most_files = omega arith;
@@ -38,7 +38,7 @@ sixteen-blocks_sound = record {
   ids_rise = next {a = one} (more {a = seven} (omega arith) done) (next done none);
   some_pages = more {a = one} (omega arith) (more {a = seven} (omega arith) done);
   pages_fit = omega arith;
-  on_disk_lem =
+  on_disk =
       more {a = section 0 2} (record { aligned = refl; within = omega arith })
       (more {a = section 6 0} (record { aligned = refl; within = omega arith })
       (more {a = section 4 1} (record { aligned = refl; within = omega arith })
@@ -76,12 +76,12 @@ sixteen-blocks_sound = record {
 -- ---- the least disk and the greatest
 
 -- one block and 4,096 with the heights of version 1, and 1,048,576 with those of version 2, all free
-pub free-disks_sound :
+pub free_disks_sound :
     Sound 13 (record { blocks = 1; files = []; free = section 0 0 ∷ [] })
     × Sound 13 (record { blocks = 4096; files = []; free = section 0 12 ∷ [] })
     × Sound 21 (record { blocks = 1048576; files = []; free = section 0 20 ∷ [] })
 unfolding fresh_layout pieces_from
-free-disks_sound = (
+free_disks_sound = (
   sums_sound 13 (fresh_layout 13 1) (fresh_sound 13 1 (omega arith) (omega arith) (omega arith)),
   sums_sound 13 (fresh_layout 13 4096) (fresh_sound 13 4096 (omega arith) (omega arith) (omega arith)),
   sums_sound 21 (fresh_layout 21 1048576) (fresh_sound 21 1048576 (omega arith) (omega arith) (omega arith)),
@@ -94,13 +94,13 @@ unfolding singles
 singles-ids i x zero = done
 singles-ids i x (suc n) =
     more {a = file i (section x 0 ∷ [])} (omega arith, omega arith)
-    (each-imp (λ f p. (omega (arith, p.0), omega (arith, p.1))) (singles-ids (suc i) (suc x) n))
+    (each_imp (λ f p. (omega (arith, p.0), omega (arith, p.1))) (singles-ids (suc i) (suc x) n))
 
 singles_rise : (i x n : ℕ) → Pairwise (λ (f g : File). f.id < g.id) (singles i x n)
 unfolding singles
 singles_rise i x zero = none
 singles_rise i x (suc n) =
-    next {a = file i (section x 0 ∷ [])} (each-imp (λ f p. p.0) (singles-ids (suc i) (suc x) n))
+    next {a = file i (section x 0 ∷ [])} (each_imp (λ f p. p.0) (singles-ids (suc i) (suc x) n))
     (singles_rise (suc i) (suc x) n)
 
 -- what holds of every file of one block
@@ -116,7 +116,7 @@ unfolding singles file_pieces
 singles_pieces i x zero = done
 singles_pieces i x (suc n) =
     more {a = section x 0} (refl, omega arith, omega arith)
-    (each-imp (λ s p. (p.0, omega (arith, p.1), omega (arith, p.2))) (singles_pieces (suc i) (suc x) n))
+    (each_imp (λ s p. (p.0, omega (arith, p.1), omega (arith, p.2))) (singles_pieces (suc i) (suc x) n))
 
 singles-apart : (i x n : ℕ)
     → Pairwise (λ (s t : Section). Apart s.first (length_of s) t.first (length_of t))
@@ -124,29 +124,29 @@ singles-apart : (i x n : ℕ)
 unfolding singles file_pieces
 singles-apart i x zero = none
 singles-apart i x (suc n) =
-    next {a = section x 0} (each-imp (λ s p. inl (omega (arith, p.1))) (singles_pieces (suc i) (suc x) n))
+    next {a = section x 0} (each_imp (λ s p. inl (omega (arith, p.1))) (singles_pieces (suc i) (suc x) n))
     (singles-apart (suc i) (suc x) n)
 
 -- 64 files with the ids 65,472 to 65,535 fill 64 blocks
-pub sixty_four-files_sound : Sound 13 (record { blocks = 64; files = singles 65472 0 64; free = [] })
+pub sixty_four_files_sound : Sound 13 (record { blocks = 64; files = singles 65472 0 64; free = [] })
 unfolding singles file_pieces ones ones_in
-sixty_four-files_sound = record {
+sixty_four_files_sound = record {
   some_blocks = omega arith;
   most_blocks = omega arith;
   most_files = omega arith;
-  least_id = each-imp (λ f p. omega (arith, p.0)) (singles-ids 65472 0 64);
-  most_id = each-imp (λ f p. omega (arith, p.1)) (singles-ids 65472 0 64);
+  least_id = each_imp (λ f p. omega (arith, p.0)) (singles-ids 65472 0 64);
+  most_id = each_imp (λ f p. omega (arith, p.1)) (singles-ids 65472 0 64);
   ids_rise = singles_rise 65472 0 64;
   some_pages = singles_each 65472 0 64 (λ j y. omega arith);
   pages_fit = omega arith;
-  on_disk_lem =
-      each-imp
+  on_disk =
+      each_imp
       (λ s p. record {
         aligned = ap (λ h. s.first % 2 ^ h) p.0 ∙ mod-one s.first;
         within = omega (arith, p.2, ap (λ h. 2 ^ h) p.0);
       })
       (singles_pieces 65472 0 64);
-  heights = each-imp (λ s p. omega (arith, p.0)) (singles_pieces 65472 0 64);
+  heights = each_imp (λ s p. omega (arith, p.0)) (singles_pieces 65472 0 64);
   page_order = singles_each 65472 0 64 (λ j y. next done none);
   file_count = singles_each 65472 0 64 (λ j y. refl);
   free_rise = none;

@@ -3,11 +3,11 @@
 use Prim.Native.Nat.{◌-◌, ◌<◌, ◌^◌, ◌≤◌, ℕ}
 use native.Mathlib.Omega.{arith}
 use lib.Pow.{pow-lt, pow_mono}
-use Rattle.layout.proofs.Lists.{each-imp}
+use Rattle.layout.proofs.Lists.{each_imp}
 use Rattle.layout.specs.Layout.{Layout, all_pieces}
 use Rattle.layout.specs.Lists.{Each}
 use Rattle.layout.specs.Sound.{Sound}
-use Rattle.section.proofs.Lengths.{pow-lt_inv}
+use Rattle.section.proofs.Lengths.{pow_lt_inv}
 use Rattle.section.specs.declared.Section.{Section}
 
 module _ (j k : ℕ) (l : Layout) where
@@ -23,7 +23,7 @@ module _ (j k : ℕ) (l : Layout) where
     ids_rise = s.ids_rise;
     some_pages = s.some_pages;
     pages_fit = s.pages_fit;
-    on_disk_lem = s.on_disk;
+    on_disk = s.on_disk;
     heights = low;
     page_order = s.page_order;
     file_count = s.file_count;
@@ -37,11 +37,11 @@ module _ (j k : ℕ) (l : Layout) where
   pub sound_higher : j ≤ k → Sound j l → Sound k l
   sound_higher p s =
       sound_for s (omega (arith, s.most_blocks, pow_mono {i = j - 1} {j = k - 1} (omega arith)))
-      (each-imp (λ x q. omega (arith, q)) s.heights)
+      (each_imp (λ x q. omega (arith, q)) s.heights)
 
 module _ (j k : ℕ) (l : Layout) where
   pub sound_lower : 1 ≤ j → l.blocks ≤ 2 ^ (j - 1) → Sound k l → Sound j l
   sound_lower p most s =
       sound_for k j l s most
-      (each-imp (λ x d. pow-lt_inv x.height.value j
+      (each_imp (λ x d. pow_lt_inv x.height.value j
       (omega (arith, d.within, most, pow-lt {i = j - 1} {j = j} (omega arith)))) s.on_disk)

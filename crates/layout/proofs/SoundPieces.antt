@@ -9,14 +9,14 @@ use native.Mathlib.Omega.{arith}
 use lib.Count.{ones, ones-le}
 use lib.ListN.{length}
 use Rattle.layout.proofs.Fewest.{per_one_fewest}
-use Rattle.layout.proofs.Lists.{each_and, each-imp, pairwise-imp, sum_ge}
+use Rattle.layout.proofs.Lists.{each_and, each_imp, pairwise_imp, sum_ge}
 use Rattle.layout.proofs.MovedPieces.{section_eta}
 use Rattle.layout.proofs.Ones.{breaks-ones, distinct-ones, ones_power}
 use Rattle.layout.specs.Divisions.{FewestPieces}
 use Rattle.layout.specs.Layout.{File, Layout, OnePiecePerOne, block_count, breaks_of, file_blocks, free_blocks}
 use Rattle.layout.specs.Lists.{Each}
 use Rattle.layout.specs.Sound.{Sound}
-use Rattle.section.proofs.Lengths.{length_unique, pow-lt_inv}
+use Rattle.section.proofs.Lengths.{length_unique, pow_lt_inv}
 use Rattle.section.proofs.Multiples.{below_or_not}
 use Rattle.section.specs.Sections.{section}
 use Rattle.section.specs.declared.Section.{Section}
@@ -35,8 +35,8 @@ module _ (k : ℕ) (l : Layout) (s : Sound k l) where
   -- a file of n blocks has one piece for each 1 in binary n
   pub file_pieces_ones : Each (λ (f : File). OnePiecePerOne (file_blocks f) f.pieces) l.files
   file_pieces_ones =
-      each-imp
-      (λ f p. distinct-ones (file_blocks f) f.pieces (pairwise-imp (λ a b q z. omega (arith, q)) p) refl)
+      each_imp
+      (λ f p. distinct-ones (file_blocks f) f.pieces (pairwise_imp (λ a b q z. omega (arith, q)) p) refl)
       s.page_order
 
   -- and so do the f free blocks
@@ -45,24 +45,24 @@ module _ (k : ℕ) (l : Layout) (s : Sound k l) where
 
   -- no file is without pieces
   pub file_has_pieces : Each (λ (f : File). f.pieces ≡ [] → ⊥) l.files
-  file_has_pieces = each-imp (λ f p e. omega (arith, p, ap block_count e)) s.some_pages
+  file_has_pieces = each_imp (λ f p e. omega (arith, p, ap block_count e)) s.some_pages
 
   -- the breaks of a file are at most the ones of n less one: none for n = 1
   pub file-breaks : Each (λ (f : File). breaks_of f.pieces ≤ ones (file_blocks f) - 1) l.files
   file-breaks =
-      each-imp
-      (λ f p. breaks-ones (pairwise-imp (λ a b q. pow-lt_inv b.height.value a.height.value q) p))
+      each_imp
+      (λ f p. breaks-ones (pairwise_imp (λ a b q. pow_lt_inv b.height.value a.height.value q) p))
       s.page_order
 
-  pub one-block_no_break : Each (λ (f : File). file_blocks f ≡ 1 → breaks_of f.pieces ≡ 0) l.files
-  one-block_no_break = each-imp (λ f p e. omega (arith, p, ap ones e, ones_power 0)) file-breaks
+  pub one_block_no_break : Each (λ (f : File). file_blocks f ≡ 1 → breaks_of f.pieces ≡ 0) l.files
+  one_block_no_break = each_imp (λ f p e. omega (arith, p, ap ones e, ones_power 0)) file-breaks
 
   -- ---- the fewest
 
   -- no division into powers of two has fewer pieces: of a file's n blocks, and of the f free ones
   pub sound_fewest : FewestPieces 2 l
   sound_fewest = record {
-    files = each-imp (λ f p. per_one_fewest (file_blocks f) f.pieces p) file_pieces_ones;
+    files = each_imp (λ f p. per_one_fewest (file_blocks f) f.pieces p) file_pieces_ones;
     free = per_one_fewest (free_blocks l) l.free free_pieces_ones;
   }
 
@@ -80,15 +80,15 @@ module _ (k : ℕ) (l : Layout) (s : Sound k l) where
       go (t ∷ u ∷ m) p q = absurd (omega arith)
 
   -- 32 free blocks are one section of height 5
-  pub thirty_two-free : free_blocks l ≡ 32 → (a : ℕ) × (l.free ≡ section a 5 ∷ [])
-  thirty_two-free e = length-free 5 e
+  pub thirty_two_free : free_blocks l ≡ 32 → (a : ℕ) × (l.free ≡ section a 5 ∷ [])
+  thirty_two_free e = length-free 5 e
 
   -- ---- the most pieces
 
   pub pieces_most : 2 ≤ k → Each (λ (f : File). length f.pieces ≤ k - 1) l.files
       × (length l.free ≤ k - 1)
   pieces_most two = (
-    each-imp
+    each_imp
         (λ f p. omega (
           arith,
           p.0,

@@ -10,9 +10,9 @@ use lib.ListN.{length}
 use lib.Pow.{pow-lt, pow_pos}
 use Rattle.layout.proofs.Allocating.{height-lt}
 use Rattle.layout.proofs.Cover.{disjoint_covers}
-use Rattle.layout.proofs.Lists.{each_and, each-imp, each-unmap, pairwise-imp, pairwise_map, pairwise-unmap}
-use Rattle.layout.proofs.Lists.{sum-append, sum-ge-all}
-use Rattle.layout.proofs.Ones.{at_most_one-distinct, at_most_one-ones, distinct-at_most_one, falling-ones}
+use Rattle.layout.proofs.Lists.{each_and, each_imp, each_unmap, pairwise_imp, pairwise_map, pairwise_unmap}
+use Rattle.layout.proofs.Lists.{sum-append, sum_ge_all}
+use Rattle.layout.proofs.Ones.{at_most_one_distinct, at_most_one_ones, distinct_at_most_one, falling-ones}
 use Rattle.layout.proofs.Ranges.{in_range-apart, in_range_inside, in_range-le-one}
 use Rattle.layout.proofs.SoundSums.{falling_heights, falling-of, free_is, free_size, pieces_size}
 use Rattle.layout.specs.Covering.{Falling, Rising}
@@ -21,7 +21,7 @@ use Rattle.layout.specs.Layout.{holds_block}
 use Rattle.layout.specs.Lists.{Each, Pairwise, done, more, next, none, sum_of}
 use Rattle.layout.specs.Sound.{Sound, greatest_id}
 use Rattle.layout.specs.Sums.{ShapeSound, SoundSums, shape}
-use Rattle.section.proofs.Lengths.{pow-lt_inv}
+use Rattle.section.proofs.Lengths.{pow_lt_inv}
 use Rattle.section.specs.Sections.{Apart, length_of}
 use Rattle.section.specs.declared.Section.{Section}
 
@@ -31,17 +31,17 @@ pub apart_each : (m : List Section) → ((x : ℕ) → sum_of (holds_block x) m 
 apart_each [] once = none
 apart_each (s ∷ m) once =
     next
-    (each-imp
+    (each_imp
     (λ t share. in_range-apart s.first (length_of s) t.first (length_of t) (pow_pos s.height.value)
     (pow_pos t.height.value) (λ x. omega (arith, once x, share x)))
-    (sum-ge-all holds_block m))
+    (sum_ge_all holds_block m))
     (apart_each m (λ x. omega (arith, once x)))
 
 pub rising_strict : (m : List Section) → Rising m → ((x : ℕ) → sum_of (holds_block x) m ≤ 1)
     → Pairwise (λ (s t : Section). s.first < t.first) m
 rising_strict [] r once = none
 rising_strict (s ∷ m) (next e r) once =
-    next (each-imp (λ t p. strict t p.0 p.1) (each_and e (sum-ge-all holds_block m)))
+    next (each_imp (λ t p. strict t p.0 p.1) (each_and e (sum_ge_all holds_block m)))
     (rising_strict m r (λ x. omega (arith, once x)))
   where
     strict : (t : Section) → s.first ≤ t.first → ((x : ℕ) → holds_block x t ≤ sum_of (holds_block x) m)
@@ -73,7 +73,7 @@ module _ (k : ℕ) (l : Layout) where
       (record {
         low = p;
         high = q;
-        falling = falling_heights (pairwise-imp (λ s t z. pow-lt_inv t.height.value s.height.value z) o);
+        falling = falling_heights (pairwise_imp (λ s t z. pow_lt_inv t.height.value s.height.value z) o);
         some = nonempty f.pieces r;
       })
       (sound_shapes fs a b c d)
@@ -95,8 +95,8 @@ module _ (k : ℕ) (l : Layout) where
       s.free_sum,
       s.pages_fit,
     ));
-    rising = pairwise-imp (λ a b p. le_of_lt p) s.free_rise;
-    thin = distinct-at_most_one s.free_distinct;
+    rising = pairwise_imp (λ a b p. le_of_lt p) s.free_rise;
+    thin = distinct_at_most_one s.free_distinct;
     shapes = sound_shapes l.files s.least_id s.most_id s.some_pages s.page_order;
     ids = pairwise_map shape s.ids_rise;
     few = s.most_files;
@@ -110,7 +110,7 @@ module _ (k : ℕ) (l : Layout) where
   -- ---- from sums to the rules
 
   shape-file : (fs : List File) → Each ShapeSound (map shape fs) → Each (λ (f : File). ShapeSound (shape f)) fs
-  shape-file fs e = each-unmap shape fs e
+  shape-file fs e = each_unmap shape fs e
 
   some_size : (m : List Section) → 1 ≤ length (map (λ (s : Section). s.height.value) m) → 1 ≤ block_count m
   some_size [] p = absurd (omega arith)
@@ -127,20 +127,20 @@ module _ (k : ℕ) (l : Layout) where
         some_blocks = g.some;
         most_blocks = g.cap;
         most_files = g.few;
-        least_id = each-imp (λ f p. p.low) shapes;
-        most_id = each-imp (λ f p. p.high) shapes;
-        ids_rise = pairwise-unmap shape l.files g.ids;
-        some_pages = each-imp (λ f p. some_size f.pieces p.some) shapes;
+        least_id = each_imp (λ f p. p.low) shapes;
+        most_id = each_imp (λ f p. p.high) shapes;
+        ids_rise = pairwise_unmap shape l.files g.ids;
+        some_pages = each_imp (λ f p. some_size f.pieces p.some) shapes;
         pages_fit = omega (arith, free_size k l g);
-        on_disk_lem = g.disk;
-        heights = each-imp (λ s d. height-lt l.blocks k g.top s d) g.disk;
-        page_order = each-imp (λ f p. pairwise-imp (λ s t q. pow-lt q) (falling f p)) shapes;
-        file_count = each-imp (λ f p. falling-ones (falling f p)) shapes;
+        on_disk = g.disk;
+        heights = each_imp (λ s d. height-lt l.blocks k g.top s d) g.disk;
+        page_order = each_imp (λ f p. pairwise_imp (λ s t q. pow-lt q) (falling f p)) shapes;
+        file_count = each_imp (λ f p. falling-ones (falling f p)) shapes;
         free_rise =
             rising_strict l.free g.rising
             (λ x. omega (arith, once x, sum-append (holds_block x) (file_pieces l.files) l.free));
-        free_distinct = at_most_one-distinct l.free g.thin;
+        free_distinct = at_most_one_distinct l.free g.thin;
         free_sum = sym (free_is k l g);
-        free_count = at_most_one-ones l.free g.thin ∙ ap ones (sym (free_is k l g));
+        free_count = at_most_one_ones l.free g.thin ∙ ap ones (sym (free_is k l g));
         apart = apart_each (all_pieces l) once;
       }

@@ -8,16 +8,16 @@ use native.Mathlib.Omega.{arith}
 use lib.Dec.{eqb}
 use borrow.Author.Tests.{eq-eqb, eqb-false, eqb-true, ne_eqb}
 use Rattle.layout.proofs.Digits.{val_lt, val_size}
-use Rattle.layout.proofs.Lists.{each_and, each-imp, each-insert, sum_insert}
+use Rattle.layout.proofs.Lists.{each_and, each_imp, each_insert, sum_insert}
 use Rattle.layout.proofs.Ranges.{in_range-halves, within}
 use Rattle.layout.proofs.Taking.{TakesOf, insert_rising, nothing_height, take_first_is, take_piece_highest}
-use Rattle.layout.proofs.Taking.{take_piece-or_split, takes-each, takes_height, takes_rising, takes_sum}
+use Rattle.layout.proofs.Taking.{take_piece_or_split, takes_each, takes_height, takes_rising, takes_sum}
 use Rattle.layout.specs.Adding.{Taken, nothing, or_else, split_at, take_first, take_piece, taken}
 use Rattle.layout.specs.Allocations.{Stock}
 use Rattle.layout.specs.Choices.{Takes}
 use Rattle.layout.specs.Covering.{AtMostOne, count_of}
 use Rattle.layout.specs.Layout.{OnDisk, by_first, has_height, holds_block, in_range, of_height}
-use Rattle.layout.specs.Lists.{Each, done, indicator, insertBy, more, sum_of}
+use Rattle.layout.specs.Lists.{Each, done, indicator, insert_by, more, sum_of}
 use Rattle.section.proofs.Multiples.{aligned_lower, multiple_sum}
 use Rattle.section.specs.Sections.{length_of, section}
 use Rattle.section.specs.declared.Section.{Section}
@@ -51,9 +51,9 @@ module _ (c : ℕ) where
       → Takes (has_height h) free s r → TakesPiece c h free s r
   takes_here {h} {free} {s} {r} st p = record {
     height = takes_height p;
-    fits = (takes-each p st.disk).0;
+    fits = (takes_each p st.disk).0;
     stock = record {
-      disk = (takes-each p st.disk).1;
+      disk = (takes_each p st.disk).1;
       rising = takes_rising p st.rising;
       thin = λ j. omega (arith, takes_sum (of_height j) p, st.thin j);
     };
@@ -68,12 +68,12 @@ module _ (c : ℕ) where
 
   takes_half : {h : ℕ} {free : List Section} {s : Section} {r : List Section} → count_of h free ≡ 0
       → TakesPiece c (suc h) free s r
-      → TakesPiece c h free (section s.first h) (insertBy by_first (section (s.first + 2 ^ h) h) r)
+      → TakesPiece c h free (section s.first h) (insert_by by_first (section (s.first + 2 ^ h) h) r)
   takes_half {h} {free} {s} {r} empty t = record {
     height = refl;
     fits = lower;
     stock = record {
-      disk = each-insert by_first (section (s.first + 2 ^ h) h) upper t.stock.disk;
+      disk = each_insert by_first (section (s.first + 2 ^ h) h) upper t.stock.disk;
       rising = insert_rising (section (s.first + 2 ^ h) h) t.stock.rising;
       thin = thinner;
     };
@@ -111,10 +111,10 @@ module _ (c : ℕ) where
       whole : (x : ℕ) → holds_block x s ≡ in_range x s.first (2 ^ h) + in_range x (s.first + 2 ^ h) (2 ^ h)
       whole x = ap (in_range x s.first) (tall_s ∙ omega arith) ∙ in_range-halves x s.first (2 ^ h) (2 ^ h)
 
-      thinner : AtMostOne (insertBy by_first (section (s.first + 2 ^ h) h) r)
+      thinner : AtMostOne (insert_by by_first (section (s.first + 2 ^ h) h) r)
       thinner j = go (eqb h j) refl
         where
-          go : (b : Bool) → eqb h j ≡ b → count_of j (insertBy by_first (section (s.first + 2 ^ h) h) r) ≤ 1
+          go : (b : Bool) → eqb h j ≡ b → count_of j (insert_by by_first (section (s.first + 2 ^ h) h) r) ≤ 1
           go true e =
               let q = eqb-true h j e in
               omega (
@@ -138,9 +138,9 @@ module _ (c : ℕ) where
     where
       go : (p : Taken) → TakesOf (has_height h) free p → TakesPieceOf c 0 h free p
       go (taken s r) q = takes_here st q
-      go nothing q = each-imp (λ s n a b. n (omega arith)) (nothing_height q)
+      go nothing q = each_imp (λ s n a b. n (omega arith)) (nothing_height q)
   take_piece_is (suc k) h free st =
-      subst (TakesPieceOf c (suc k) h free) (sym (take_piece-or_split k h free))
+      subst (TakesPieceOf c (suc k) h free) (sym (take_piece_or_split k h free))
       (go (take_first (has_height h) free) (take_first_is (has_height h) free) (take_piece k (suc h) free)
       (take_piece_is k (suc h) free st))
     where
@@ -149,11 +149,11 @@ module _ (c : ℕ) where
       go (taken s r) q t u = takes_here st q
       go nothing q (taken s r) u = takes_half (count_none h (nothing_height q)) u
       go nothing q nothing u =
-          each-imp (λ s p a b. p.1 (omega (arith, p.0)) (omega arith)) (each_and (nothing_height q) u)
+          each_imp (λ s p a b. p.1 (omega (arith, p.0)) (omega arith)) (each_and (nothing_height q) u)
 
   -- thin sections below height h come to less than 2^h
-  pub at_most_one-small : (h : ℕ) {l : List Section} → Each (λ (s : Section). s.height.value < h) l → AtMostOne l
+  pub at_most_one_small : (h : ℕ) {l : List Section} → Each (λ (s : Section). s.height.value < h) l → AtMostOne l
       → sum_of length_of l < 2 ^ h
-  at_most_one-small h {l} e thin =
+  at_most_one_small h {l} e thin =
       subst (λ z. z < 2 ^ h) (sym (val_size 2 h e))
       (val_lt 2 (omega arith) (λ j. count_of j l) h (λ j. omega (arith, thin j)))

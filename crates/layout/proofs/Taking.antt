@@ -7,13 +7,13 @@ use Prim.Native.Nat.{◌+◌, ◌≤◌, suc, ℕ}
 use native.Mathlib.Nat.{le_of_lt, le_trans}
 use native.Mathlib.Omega.{arith}
 use borrow.Author.Tests.{eqb-false, eqb-true, leb-false, leb-true}
-use Rattle.layout.proofs.Lists.{each-imp, insert_sorted, sort_sorted}
+use Rattle.layout.proofs.Lists.{each_imp, insert_sorted, sort_sorted}
 use Rattle.layout.specs.Adding.{Taken, keeping, nothing, or_else, split_at, take_first, take_of_height, take_piece}
 use Rattle.layout.specs.Adding.{taken}
 use Rattle.layout.specs.Choices.{Takes, here, there}
 use Rattle.layout.specs.Covering.{Rising}
 use Rattle.layout.specs.Layout.{by_first, has_height}
-use Rattle.layout.specs.Lists.{Each, done, insertBy, more, next, sortBy, sum_of}
+use Rattle.layout.specs.Lists.{Each, done, insert_by, more, next, sort_by, sum_of}
 use Rattle.section.specs.declared.Section.{Section}
 
 abbrev pub TakesOf : (Section → Bool) → List Section → Taken → Type 0
@@ -58,10 +58,10 @@ pub takes_sum : {p : Section → Bool} {l r : List Section} {s : Section} (w : S
 takes_sum w (here e) = refl
 takes_sum w (there n x) = omega (arith, takes_sum w x)
 
-pub takes-each {κ} : {p : Section → Bool} {l r : List Section} {s : Section} {P : Section → Type κ} → Takes p l s r
+pub takes_each {κ} : {p : Section → Bool} {l r : List Section} {s : Section} {P : Section → Type κ} → Takes p l s r
     → Each P l → P s × Each P r
-takes-each (here e) (more q qs) = (q, qs)
-takes-each (there n x) (more q qs) = let y = takes-each x qs in (y.0, more q y.1)
+takes_each (here e) (more q qs) = (q, qs)
+takes_each (there n x) (more q qs) = let y = takes_each x qs in (y.0, more q y.1)
 
 -- what holds of the one taken and of the others holds of all
 pub takes_back {κ} : {p : Section → Bool} {l r : List Section} {s : Section} {P : Section → Type κ} → Takes p l s r
@@ -75,16 +75,16 @@ takes_height {h} {s = s} x = eqb-true s.height.value h (takes_test x)
 -- no section of the list has height h
 pub nothing_height : {h : ℕ} {l : List Section} → Each (λ (a : Section). has_height h a ≡ false) l
     → Each (λ (a : Section). a.height.value ≡ h → ⊥) l
-nothing_height {h} e = each-imp (λ a q. eqb-false a.height.value h q) e
+nothing_height {h} e = each_imp (λ a q. eqb-false a.height.value h q) e
 
 pub takes_rising : {p : Section → Bool} {l r : List Section} {s : Section} → Takes p l s r → Rising l → Rising r
 takes_rising (here e) (next q qs) = qs
-takes_rising (there n x) (next q qs) = next (takes-each x q).1 (takes_rising x qs)
+takes_rising (there n x) (next q qs) = next (takes_each x q).1 (takes_rising x qs)
 
 -- the one pulled first has the lowest first block of its height
 pub takes_lowest : {h : ℕ} {l r : List Section} {s : Section} → Takes (has_height h) l s r → Rising l
     → Each (λ (b : Section). b.height.value ≡ h → s.first ≤ b.first) r
-takes_lowest (here e) (next q qs) = each-imp (λ b x _. x) q
+takes_lowest (here e) (next q qs) = each_imp (λ b x _. x) q
 takes_lowest {h} (there {a = a} n x) (next q qs) =
     more (λ e. absurd (eqb-false a.height.value h n e)) (takes_lowest x qs)
 
@@ -96,19 +96,19 @@ unfolding take_piece
 take_piece_highest h free = refl
 
 -- else a free one, or one split from what is taken a height up
-pub take_piece-or_split : (k h : ℕ) (free : List Section)
+pub take_piece_or_split : (k h : ℕ) (free : List Section)
     → take_piece (suc k) h free ≡ or_else (take_of_height h free) (split_at h (take_piece k (suc h) free))
 unfolding take_piece
-take_piece-or_split k h free = refl
+take_piece_or_split k h free = refl
 
 -- ---- by rising first block
 
-pub insert_rising : (a : Section) {l : List Section} → Rising l → Rising (insertBy by_first a l)
+pub insert_rising : (a : Section) {l : List Section} → Rising l → Rising (insert_by by_first a l)
 insert_rising =
     insert_sorted by_first (λ a b. a.first ≤ b.first) (λ a b. leb-true a.first b.first)
     (λ a b e. le_of_lt (leb-false a.first b.first e)) (λ a b c p q. le_trans p q)
 
-pub sort_rising : (l : List Section) → Rising (sortBy by_first l)
+pub sort_rising : (l : List Section) → Rising (sort_by by_first l)
 sort_rising =
     sort_sorted by_first (λ a b. a.first ≤ b.first) (λ a b. leb-true a.first b.first)
     (λ a b e. le_of_lt (leb-false a.first b.first e)) (λ a b c p q. le_trans p q)

@@ -7,7 +7,7 @@ use mathlib.Core.Logic.{inl, inr}
 use mathlib.Core.Path.{refl}
 use Prim.Native.Nat.{◌+◌, ◌<◌, ℕ}
 use native.Mathlib.Omega.{arith}
-use Rattle.layout.proofs.Lists.{each-head, each_tail}
+use Rattle.layout.proofs.Lists.{each_head, each_tail}
 use Rattle.layout.specs.Layout.{file_pieces}
 use Rattle.layout.specs.Lists.{Pairwise, next}
 use Rattle.section.specs.Sections.{Apart, section}
@@ -16,7 +16,7 @@ use Rattle.layout.specs.Cases.{file, singles, Unsound}
 
 -- the first two of a list
 two {κ} : {A : Type 0} {R : A → A → Type κ} {a b : A} {l : List A} → Pairwise R (a ∷ b ∷ l) → R a b
-two (next e p) = each-head e
+two (next e p) = each_head e
 
 -- ---- the disk
 
@@ -31,58 +31,58 @@ disk_too_long_unsound s = omega (arith, s.most_blocks)
 -- ---- entries
 
 -- 65 files
-pub sixty_five-files_unsound : Unsound 65 (singles 1 0 65) []
+pub sixty_five_files_unsound : Unsound 65 (singles 1 0 65) []
 unfolding singles
-sixty_five-files_unsound s = omega (arith, s.most_files)
+sixty_five_files_unsound s = omega (arith, s.most_files)
 
 -- an id is 0
-pub id-zero_unsound : Unsound 4 (file 0 (section 0 0 ∷ []) ∷ []) (section 1 0 ∷ section 2 1 ∷ [])
-id-zero_unsound s = omega (arith, each-head s.least_id)
+pub id_zero_unsound : Unsound 4 (file 0 (section 0 0 ∷ []) ∷ []) (section 1 0 ∷ section 2 1 ∷ [])
+id_zero_unsound s = omega (arith, each_head s.least_id)
 
 -- an id is 65,536
 pub id_too_great_unsound : Unsound 4 (file 65536 (section 0 0 ∷ []) ∷ []) (section 1 0 ∷ section 2 1 ∷ [])
-id_too_great_unsound s = omega (arith, each-head s.most_id)
+id_too_great_unsound s = omega (arith, each_head s.most_id)
 
 -- the ids fall, and two are equal
-pub ids-falling_unsound : Unsound 2 (file 2 (section 0 0 ∷ []) ∷ file 1 (section 1 0 ∷ []) ∷ []) []
-ids-falling_unsound s = omega (arith, two s.ids_rise)
+pub ids_falling_unsound : Unsound 2 (file 2 (section 0 0 ∷ []) ∷ file 1 (section 1 0 ∷ []) ∷ []) []
+ids_falling_unsound s = omega (arith, two s.ids_rise)
 
 pub ids_equal_unsound : Unsound 2 (file 1 (section 0 0 ∷ []) ∷ file 1 (section 1 0 ∷ []) ∷ []) []
 ids_equal_unsound s = omega (arith, two s.ids_rise)
 
 -- n is 0
-pub empty-file_unsound : Unsound 4 (file 1 [] ∷ []) (section 0 2 ∷ [])
-empty-file_unsound s = omega (arith, each-head s.some_pages)
+pub empty_file_unsound : Unsound 4 (file 1 [] ∷ []) (section 0 2 ∷ [])
+empty_file_unsound s = omega (arith, each_head s.some_pages)
 
 -- ---- pairs
 
 -- a file's piece ends past C: (2,2) of 3 blocks; a free piece does
 pub file_off_disk_unsound : Unsound 3 (file 1 (section 2 1 ∷ []) ∷ []) (section 0 0 ∷ [])
 unfolding file_pieces
-file_off_disk_unsound s = omega (arith, (each-head s.on_disk).within)
+file_off_disk_unsound s = omega (arith, (each_head s.on_disk).within)
 
 pub free_off_disk_unsound : Unsound 3 (file 1 (section 0 0 ∷ []) ∷ []) (section 2 1 ∷ [])
 unfolding file_pieces
-free_off_disk_unsound s = omega (arith, (each-head (each_tail s.on_disk)).within)
+free_off_disk_unsound s = omega (arith, (each_head (each_tail s.on_disk)).within)
 
 -- a file's first block is no multiple of its length: (1,2); a free piece's is not
 pub file_unaligned_unsound : Unsound 3 (file 1 (section 1 1 ∷ []) ∷ []) (section 0 0 ∷ [])
 unfolding file_pieces
-file_unaligned_unsound s = omega (arith, (each-head s.on_disk).aligned)
+file_unaligned_unsound s = omega (arith, (each_head s.on_disk).aligned)
 
 pub free_unaligned_unsound : Unsound 3 (file 1 (section 0 0 ∷ []) ∷ []) (section 1 1 ∷ [])
 unfolding file_pieces
-free_unaligned_unsound s = omega (arith, (each-head (each_tail s.on_disk)).aligned)
+free_unaligned_unsound s = omega (arith, (each_head (each_tail s.on_disk)).aligned)
 
 -- ---- lengths
 
 -- the shorter piece of a file stands first
 pub shorter_first_unsound : Unsound 4 (file 1 (section 0 0 ∷ section 2 1 ∷ []) ∷ []) (section 1 0 ∷ [])
-shorter_first_unsound s = omega (arith, two (each-head s.page_order))
+shorter_first_unsound s = omega (arith, two (each_head s.page_order))
 
 -- two pieces of a file have one length, and n is 2, with a single 1
 pub equal_lengths_unsound : Unsound 2 (file 1 (section 0 0 ∷ section 1 0 ∷ []) ∷ []) []
-equal_lengths_unsound s = omega (arith, two (each-head s.page_order))
+equal_lengths_unsound s = omega (arith, two (each_head s.page_order))
 
 -- two free pieces have one length, and f is 2
 pub equal_free_lengths_unsound :
@@ -90,12 +90,12 @@ pub equal_free_lengths_unsound :
 equal_free_lengths_unsound s = two s.free_distinct refl
 
 -- the free pieces fall
-pub free-falling_unsound : Unsound 4 (file 1 (section 0 0 ∷ []) ∷ []) (section 2 1 ∷ section 1 0 ∷ [])
-free-falling_unsound s = omega (arith, two s.free_rise)
+pub free_falling_unsound : Unsound 4 (file 1 (section 0 0 ∷ []) ∷ []) (section 2 1 ∷ section 1 0 ∷ [])
+free_falling_unsound s = omega (arith, two s.free_rise)
 
 -- f is 6, the free lengths sum to 5: block 3 is in no piece
-pub free-sum_unsound : Unsound 8 (file 1 (section 0 1 ∷ []) ∷ []) (section 2 0 ∷ section 4 2 ∷ [])
-free-sum_unsound s = omega (arith, s.free_sum)
+pub free_sum_unsound : Unsound 8 (file 1 (section 0 1 ∷ []) ∷ []) (section 2 0 ∷ section 4 2 ∷ [])
+free_sum_unsound s = omega (arith, s.free_sum)
 
 -- the n sum to 2, and C is 1
 pub sum_past_disk_unsound : Unsound 1 (file 1 (section 0 0 ∷ []) ∷ file 2 (section 0 0 ∷ []) ∷ []) []
@@ -139,4 +139,4 @@ unfolding file_pieces
 far_pieces_share_unsound s = not-apart 0 1 0 1 (omega arith) (omega arith) (third s.apart)
   where
     third : {R : Section → Section → Type 0} {a b c : Section} {l : List Section} → Pairwise R (a ∷ b ∷ c ∷ l) → R a c
-    third (next e p) = each-head (each_tail e)
+    third (next e p) = each_head (each_tail e)

@@ -2,7 +2,7 @@
 use Rattle.std.specs.Prelude.{Bool, true, false, List, [], ◌∷◌, ℕ, zero, suc, ◌+◌, ◌^◌}
 use Rattle.section.specs.declared.Section.{Section}
 use Rattle.section.specs.Sections.{section}
-use Rattle.layout.specs.Lists.{insertBy}
+use Rattle.layout.specs.Lists.{insert_by}
 use Rattle.layout.specs.Layout.{Layout, has_height, by_first, by_id, digit}
 
 -- what taking finds: a section and those that are left, or nothing
@@ -25,7 +25,7 @@ take_of_height h free = take_first (has_height h) free
 
 -- the lower half of what was taken a height up is used, the upper half joins the free pieces
 abbrev pub split_at : ℕ → Taken → Taken
-split_at h (taken s r) = taken (section s.first h) (insertBy by_first (section (s.first + 2 ^ h) h) r)
+split_at h (taken s r) = taken (section s.first h) (insert_by by_first (section (s.first + 2 ^ h) h) r)
 split_at h nothing = nothing
 
 abbrev pub or_else : Taken → Taken → Taken
@@ -66,6 +66,6 @@ abbrev pub with_file : ℕ → List Section → List Section → Layout → Layo
 with_file i s r l =
     record {
       blocks = l.blocks;
-      files = insertBy by_id (record { id = i; pieces = s }) l.files;
+      files = insert_by by_id (record { id = i; pieces = s }) l.files;
       free = r;
     }

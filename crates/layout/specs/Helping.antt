@@ -3,7 +3,7 @@
 -- Definitions only.
 use Rattle.std.specs.Prelude.{Bool, ◌&&◌, ◌||◌, false, true, List, [], ◌∷◌, map, ◌⊎◌, ◌≡◌, ◌+◌, ◌<◌, ◌≤◌, ℕ, eqb, leb, ltb, length}
 use Rattle.layout.specs.Layout.{File, Layout, file_blocks, find_file, found, free_blocks}
-use Rattle.layout.specs.Lists.{Each, Pairwise, sortBy, times_in}
+use Rattle.layout.specs.Lists.{Each, Pairwise, sort_by, times_in}
 use Rattle.layout.specs.Removing.{copies_of, removal}
 
 -- ---- the list
@@ -39,7 +39,7 @@ by_copies a b = ltb a.copies b.copies || (eqb a.copies b.copies && leb a.id b.id
 
 -- the ids of all files that let n blocks in, fewest copied blocks first, equal counts by lower id
 unfoldable pub helping_ids : ℕ → ℕ → Layout → List ℕ
-helping_ids k n l = map (λ (a : Candidate). a.id) (sortBy by_copies (candidates_of k n l l.files))
+helping_ids k n l = map (λ (a : Candidate). a.id) (sort_by by_copies (candidates_of k n l l.files))
 
 -- ---- what such a list is
 

@@ -23,13 +23,13 @@ abbrev pub times_in : ℕ → List ℕ → ℕ
 times_in i l = sum_of (λ x. indicator (eqb x i)) l
 
 -- a put before the first element that it is not above, in the order le
-unfoldable pub insertBy {ℓ} : {A : Type ℓ} → (A → A → Bool) → A → List A → List A
-insertBy {A} le a [] = a ∷ []
-insertBy {A} le a (b ∷ l) = elim (le a b) as (λ _. List A) [ true ↦ a ∷ b ∷ l | false ↦ b ∷ insertBy le a l ]
+unfoldable pub insert_by {ℓ} : {A : Type ℓ} → (A → A → Bool) → A → List A → List A
+insert_by {A} le a [] = a ∷ []
+insert_by {A} le a (b ∷ l) = elim (le a b) as (λ _. List A) [ true ↦ a ∷ b ∷ l | false ↦ b ∷ insert_by le a l ]
 
-unfoldable pub sortBy {ℓ} : {A : Type ℓ} → (A → A → Bool) → List A → List A
-sortBy le [] = []
-sortBy le (a ∷ l) = insertBy le a (sortBy le l)
+unfoldable pub sort_by {ℓ} : {A : Type ℓ} → (A → A → Bool) → List A → List A
+sort_by le [] = []
+sort_by le (a ∷ l) = insert_by le a (sort_by le l)
 
 -- every element has P
 pub data Each {ℓ κ} {A : Type ℓ} (P : A → Type κ) : List A → Type (ℓ ⊔ κ) where

@@ -4,7 +4,7 @@
 use Rattle.std.specs.Prelude.{Bool, true, false, cond, ◌&&◌, List, [], ◌∷◌, ◌++◌, map, ℕ, zero, suc, ◌+◌, eqb, ltb, length}
 use Rattle.section.specs.declared.Section.{Section}
 use Rattle.section.specs.Sections.{length_of, buddy_of, parent_of, moved_into}
-use Rattle.layout.specs.Lists.{insertBy, sortBy, sum_of}
+use Rattle.layout.specs.Lists.{insert_by, sort_by, sum_of}
 use Rattle.layout.specs.Layout.{File, Layout, by_first, file_pieces, has_height, holds_block}
 use Rattle.layout.specs.Adding.{Taken, taken, nothing, take_first, take_of_height}
 
@@ -103,7 +103,7 @@ merge l u others w =
       after = record {
         blocks = w.blocks;
         files = map (moved_file (buddy_of l) u) w.files;
-        free = insertBy by_first (parent_of l) (sortBy by_first (map moved others));
+        free = insert_by by_first (parent_of l) (sort_by by_first (map moved others));
       };
     }
 
@@ -143,7 +143,7 @@ layout_after l (m ∷ ms) = layout_after m.after ms
 
 unfoldable pub insert_all : List Section → List Section → List Section
 insert_all [] free = free
-insert_all (s ∷ l) free = insertBy by_first s (insert_all l free)
+insert_all (s ∷ l) free = insert_by by_first s (insert_all l free)
 
 -- the files but the one of id i
 unfoldable pub without_file : ℕ → List File → List File

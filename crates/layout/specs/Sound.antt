@@ -29,7 +29,7 @@ pub record Sound (k : ℕ) (l : Layout) : Type 0 where
   -- the n sum to at most C
   pub pages_fit : sum_of file_blocks l.files ≤ l.blocks
   -- each pair is a section of the disk
-  pub on_disk_lem : Each (OnDisk l.blocks) (all_pieces l)
+  pub on_disk : Each (OnDisk l.blocks) (all_pieces l)
   -- and its height is one of those below k
   pub heights : Each (λ (s : Section). s.height.value < k) (all_pieces l)
   -- lengths in a file are distinct, and page order is by length, the longest first

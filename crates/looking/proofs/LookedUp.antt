@@ -9,7 +9,7 @@ use Rattle.blocks.proofs.DiskFits.{entry_on_disk}
 use Rattle.blocks.specs.DiskCode.{EntryFits}
 use Rattle.looking.specs.Opened.{Opened}
 use Rattle.layout.proofs.Finding.{find_each, find_file_lem, found_find}
-use Rattle.layout.proofs.Lists.{each-imp, each_left}
+use Rattle.layout.proofs.Lists.{each_imp, each_left}
 use Rattle.layout.proofs.LookingUp.{sound_rises}
 use Rattle.layout.specs.Layout.{File, OnDisk, block_count, file_blocks, file_pieces, find_file, found, has_file, is_found}
 use Rattle.layout.specs.Layout.{missing}
@@ -81,7 +81,7 @@ module _ (t : Table) (opened : Opened t) (id i : ℕ) (x : FirstOf t id i) where
 
   -- what the breaks of its pieces ask for
   pub looked_served : Each Addressable (pieces_in (entry_at t i))
-  looked_served = each-imp (served t.blocks small) looked_disk
+  looked_served = each_imp (served t.blocks small) looked_disk
 
   -- what the functions on blocks ask for
   pub looked_fits : EntryFits (block_size * t.blocks) (entry_at t i)

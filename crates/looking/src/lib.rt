@@ -1,4 +1,6 @@
 // The calls that only look, past the catalogue: on a table that was loaded. And the answers of all calls.
+#![tactic(auto)]
+
 mod breaks;
 mod check;
 mod free;
@@ -10,7 +12,7 @@ pub use free::free_in;
 pub use read::read_in;
 
 // The answered number, that blocks fit already, or the refusal by name.
-#[derive(Drop)]
+#[derive(Clone, Copy)]
 pub enum Answer {
     Number(u32),
     FitsAlready,

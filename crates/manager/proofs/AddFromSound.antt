@@ -12,7 +12,7 @@ use Rattle.catalogue.specs.Encoding.{encode}
 use Rattle.catalogue.specs.Roomy.{Roomy}
 use Rattle.catalogue.specs.declared.Version.{Version}
 use Rattle.layout.proofs.Added.{added_once, added_size, added_sound, allocate_fits}
-use Rattle.layout.proofs.Lists.{each-head, each_tail}
+use Rattle.layout.proofs.Lists.{each_head, each_tail}
 use Rattle.layout.proofs.Occurs.{blocks_within, length-blocks, occurs-blocks}
 use Rattle.layout.specs.Adding.{allocate, allocated, with_file}
 use Rattle.layout.specs.Allocations.{Allocates}
@@ -67,9 +67,9 @@ module _ (v : Version) (room : Roomy v) (l : Layout) (s : Sound v.heights l) (d 
     sound_after =
         own_heights v room (with_file i q r l) s.most_blocks
         (added_sound height_count i (page_count bs) l sums q r p fresh least most size.0 fits few);
-    disk_length = write_length l.blocks d ld on_disk_lem cut.0;
+    disk_length = write_length l.blocks d ld on_disk cut.0;
     pages = back;
-    others = λ x z. write_other l.blocks d ld on_disk_lem cut.0 x (occurs-blocks x q ∙ z);
+    others = λ x z. write_other l.blocks d ld on_disk cut.0 x (occurs-blocks x q ∙ z);
     lines =
         sym (
         ap₂ write_line (λ j. record { id = i; pages = (content_pages_lem bs ∙ sym back) j }) (sym kept)
@@ -79,8 +79,8 @@ module _ (v : Version) (room : Roomy v) (l : Layout) (s : Sound v.heights l) (d 
       d' : List ℕ
       d' = write_pages d (blocks_of q) (cut_pages (page_count bs) bs)
 
-      on_disk_lem : Each (λ b. b < l.blocks) (blocks_of q)
-      on_disk_lem = blocks_within l.blocks p.on
+      on_disk : Each (λ b. b < l.blocks) (blocks_of q)
+      on_disk = blocks_within l.blocks p.on
 
       once : (x : ℕ) → sum_of (holds_block x) q + sum_of (holds_block x) (file_pieces l.files) ≤ 1
       once = added_once height_count i (page_count bs) l sums q r p fresh least most size.0 fits few
@@ -90,13 +90,13 @@ module _ (v : Version) (room : Roomy v) (l : Layout) (s : Sound v.heights l) (d 
 
       back : map (block d') (blocks_of q) ≡ cut_pages (page_count bs) bs
       back =
-          write_back l.blocks d ld on_disk_lem cut.0 (length-blocks q ∙ (sized ∙ sym cut.1))
+          write_back l.blocks d ld on_disk cut.0 (length-blocks q ∙ (sized ∙ sym cut.1))
           (λ x. omega (arith, occurs-blocks x q, once x))
 
       kept : map (line_on d') l.files ≡ map (line_on d) l.files
       kept =
           lines_same d d' l.files
-          (λ x z. write_other l.blocks d ld on_disk_lem cut.0 x (omega (arith, occurs-blocks x q, once x)))
+          (λ x z. write_other l.blocks d ld on_disk cut.0 x (omega (arith, occurs-blocks x q, once x)))
 
   pub adds : Adds v l d i bs (add_pieces v i bs (encode v l) d l (allocate 0 height_count (page_count bs) l.free))
   adds =
@@ -136,6 +136,6 @@ add_answered_iff v room l s d ld i bs least most fresh paged few = (
       let passed = allowed_none (add_checks i bs l)
       (answered_allowed (first_refusal (add_checks i bs l)) (encode v l) d []
       (add_pieces v i bs (encode v l) d l (allocate 0 height_count (page_count bs) l.free)) (page_count bs) q) in
-      ltb-false (free_blocks l) (page_count bs) (each-head (each_tail (each_tail (each_tail (each_tail passed)))))),
+      ltb-false (free_blocks l) (page_count bs) (each_head (each_tail (each_tail (each_tail (each_tail passed)))))),
   λ fits. (add_from_sound v room l s d ld i bs least most fresh paged few fits).reply,
 )

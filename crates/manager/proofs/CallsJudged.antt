@@ -16,7 +16,7 @@ use Rattle.manager.proofs.Catalogues.{decides_length, read_catalogue_lem, unread
 use Rattle.manager.proofs.ConditionLists.{Judges, judges_end, judges_row}
 use Rattle.manager.proofs.Deciding.{decides_below, decides_equal, decides_false, decides_not, decides_true}
 use Rattle.manager.proofs.TableRows.{decides_too_long, decides_unpaged, disk-row, full-row, missing_row}
-use Rattle.manager.proofs.TableRows.{not_above_row, past_end-row, space-row, there_row}
+use Rattle.manager.proofs.TableRows.{not_above_row, past_end_row, space-row, there_row}
 use Rattle.manager.specs.Call.{Call, add, breaks, check, free, read, remove, replace, which}
 use Rattle.manager.specs.Conditions.{Condition, add_conditions, breaks_conditions, check_conditions, condition}
 use Rattle.manager.specs.Conditions.{free_conditions, on_layout, read_conditions, remove_conditions}
@@ -98,7 +98,7 @@ module _ (cat d : List ℕ) (bytes : Bytes cat) where
       judges_row id_zero (decides_equal i 0) λ _.
       judges_row id_missing (missing_row cat d l h i) λ _.
       judges_row buffer_length (decides_unpaged o) λ _.
-      judges_row past_end (past_end-row cat d l h i p (page_count o)) λ _.
+      judges_row past_end (past_end_row cat d l h i p (page_count o)) λ _.
       judges_end
   call_judged (breaks i) =
       judges_catalogue (breaks i) _ λ l h.

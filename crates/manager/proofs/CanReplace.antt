@@ -9,7 +9,7 @@ use lib.Dec.{eqb}
 use lib.ListN.{length}
 use borrow.Author.Tests.{eq-eqb, eqb-false, eqb-true, le-ltb, leb-false, lt-leb, ltb-false, ne_eqb, not-false}
 use Rattle.catalogue.specs.Version.{version_of}
-use Rattle.layout.proofs.Lists.{each-head, each_tail}
+use Rattle.layout.proofs.Lists.{each_head, each_tail}
 use Rattle.layout.specs.Layout.{File, Found, Layout, file_blocks, find_file, found, free_blocks, is_found, missing}
 use Rattle.layout.specs.Lists.{Each, done, more}
 use Rattle.layout.specs.Removing.{copies_of, removal}
@@ -44,26 +44,26 @@ module _ (l : Layout) (d : List ℕ) (i : ℕ) (bs : List ℕ) where
           ∷ condition 11 (too_long bs l x) ∷ [])
           → (f : File) × CanReplace l d i bs f
       go missing q p =
-          absurd (let z = each-head (each_tail (each_tail p)) in let y : ◌≡◌ {A = ℕ} 0 1 = cc in omega arith)
+          absurd (let z = each_head (each_tail (each_tail p)) in let y : ◌≡◌ {A = ℕ} 0 1 = cc in omega arith)
       go (found f) q p =
           let p5 = each_tail p in
           let p8 = each_tail (each_tail p5) in
           let p12 = each_tail p8 in
           let p13 = each_tail p12 in
-          let nonzero = eqb-false i 0 (each-head p5) in
+          let nonzero = eqb-false i 0 (each_head p5) in
           let new = first_rank (cut_pages (page_count bs) bs) in
-          let some = eqb-false new 0 (each-head p12) in (
+          let some = eqb-false new 0 (each_head p12) in (
             f,
             record {
               disk =
                   eqb-true (length d) (block_size * l.blocks)
-                  (not-false (eqb (length d) (block_size * l.blocks)) (each-head p));
+                  (not-false (eqb (length d) (block_size * l.blocks)) (each_head p));
               least = omega (arith, nonzero);
               there = q;
-              paged = each-head p8;
+              paged = each_head p8;
               ranked = omega (arith, some);
-              above = leb-false new (first_rank (pages_on d f.pieces)) (each-head p13);
-              fits = ltb-false (free_blocks l + file_blocks f) (page_count bs) (each-head (each_tail p13));
+              above = leb-false new (first_rank (pages_on d f.pieces)) (each_head p13);
+              fits = ltb-false (free_blocks l + file_blocks f) (page_count bs) (each_head (each_tail p13));
             },
           )
 

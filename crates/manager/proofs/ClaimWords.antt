@@ -9,7 +9,7 @@ use lib.ListN.{length}
 use Rattle.catalogue.specs.Version.{here, later, version1, version2}
 use Rattle.catalogue.specs.declared.Version.{Version}
 use Rattle.layout.proofs.Breaks.{breaks-at-pages}
-use Rattle.manager.proofs.OnlyWhich.{Ordered, ordered_or-which}
+use Rattle.manager.proofs.OnlyWhich.{Ordered, ordered_or_which}
 use Rattle.manager.specs.Book.{Book, BookReply, answers, any_number, fits, in_any_order, in_book, refuses}
 use Rattle.manager.specs.Call.{Call, ListedCall, TwoByteId, add, breaks, check, free, read, remove, replace}
 use Rattle.manager.specs.Call.{which}
@@ -82,7 +82,7 @@ output_alike fits x y h e = e
 -- so the whole output of every call but `which` is the book's
 pub output_but_which : (c : Call) (b : Book) (out : List ℕ) → OutputsAgree (in_book c b).reply out (in_book c b).output
     → (Asking c → ⊥) → out ≡ (in_book c b).output
-output_but_which c b out a other = go (ordered_or-which c b)
+output_but_which c b out a other = go (ordered_or_which c b)
   where
     go : Ordered (in_book c b).reply ⊎ Asking c → out ≡ (in_book c b).output
     go (inl h) = output_alike (in_book c b).reply out (in_book c b).output h a

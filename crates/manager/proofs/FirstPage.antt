@@ -26,9 +26,9 @@ module _ (d : List ℕ) (s : Section) (l : List Section) where
   unfolding pages_on blocks_of
   pages-first = ap (λ r. map (block d) (r ++ blocks_of l)) (run_first s.first (length_of s) (pow_pos s.height.value))
 
-  pub first-page_byte : (k : ℕ) → k < block_size
+  pub first_page_byte : (k : ℕ) → k < block_size
       → get_or (get_or (pages_on d (s ∷ l)) 0 []) k 0 ≡ get_or d (block_size * s.first + k) 0
-  first-page_byte k h =
+  first_page_byte k h =
       ap (λ ps. get_or (get_or ps 0 []) k 0) pages-first
       ∙ (get_or-take block_size (drop (block_size * s.first) d) k 0 h ∙ get_or-drop (block_size * s.first) d k 0)
 
@@ -45,4 +45,4 @@ content_letter (suc n) bs some =
 pub stored-letter : (d : List ℕ) (s : Section) (ps : List Section)
     → first_letter (pages_on d (s ∷ ps)) ≡ get_or d (512 * s.first + 6) 0
 unfolding first_letter
-stored-letter d s ps = first-page_byte d s ps 6 (omega arith)
+stored-letter d s ps = first_page_byte d s ps 6 (omega arith)

@@ -4,12 +4,12 @@ use mathlib.Core.Path.{◌≡◌}
 use Prim.Native.Nat.{◌*◌, ℕ}
 use native.Mathlib.Omega.{arith}
 use lib.ListN.{length}
-use Rattle.catalogue.proofs.Roomy.{each-one}
+use Rattle.catalogue.proofs.Roomy.{each_one}
 use Rattle.catalogue.specs.Version.{here, later, version1, version2}
 use Rattle.catalogue.specs.declared.Version.{Version}
 use Rattle.layout.specs.Lists.{done, more}
 use Rattle.manager.proofs.ClaimWords.{claim_reaches_large, claim_reaches_small}
-use Rattle.manager.proofs.FormatRefusals.{format-lowest_refusal}
+use Rattle.manager.proofs.FormatRefusals.{format_lowest_refusal}
 use Rattle.manager.proofs.WholeList.{whole_list}
 use Rattle.manager.specs.Conditions.{answered, refused}
 use Rattle.manager.specs.Formatting.{NoVersion}
@@ -18,10 +18,10 @@ use Rattle.manager.specs.Outcomes.{format_outcome}
 module _ (cat d : List ℕ) where
   -- a catalogue of another length than 4,096 and 16,384 bytes
   pub other_length : (length cat ≡ 4096 → ⊥) → (length cat ≡ 16384 → ⊥) → (format_outcome cat d).reply ≡ refused 1
-  other_length small large = (format-lowest_refusal cat d).catalogue_length.1 none
+  other_length small large = (format_lowest_refusal cat d).catalogue_length.1 none
     where
       none : NoVersion cat
-      none v known e = each-one {P = λ (u : Version). length cat ≡ u.bytes → ⊥}
+      none v known e = each_one {P = λ (u : Version). length cat ≡ u.bytes → ⊥}
           (more small (more large done)) known e
 
   -- the small catalogue takes 1 to 4,096 blocks
@@ -33,7 +33,7 @@ module _ (cat d : List ℕ) where
 
   pub small_past : length cat ≡ 4096 → length d ≡ 512 * 4097 → (format_outcome cat d).reply ≡ refused 2
   small_past c n =
-      (format-lowest_refusal cat d).disk_length.1
+      (format_lowest_refusal cat d).disk_length.1
       (version1, here, c, λ w. omega (arith, w.2, w.3))
 
   -- the large one 1 to 1,048,576
@@ -45,5 +45,5 @@ module _ (cat d : List ℕ) where
 
   pub large_past : length cat ≡ 16384 → length d ≡ 512 * 1048577 → (format_outcome cat d).reply ≡ refused 2
   large_past c n =
-      (format-lowest_refusal cat d).disk_length.1
+      (format_lowest_refusal cat d).disk_length.1
       (version2, later here, c, λ w. omega (arith, w.2, w.3))

@@ -50,9 +50,9 @@ decides_no_disk v d = record { holds = λ e. wrong (test.holds e); fails = λ e 
         (page_count d, omega (arith, some), omega (arith, most), omega arith)
 
 -- when a format is refused, and with which number
-pub format-lowest_refusal : (cat d : List ℕ) → FormatRefused cat d (format_outcome cat d).reply
+pub format_lowest_refusal : (cat d : List ℕ) → FormatRefused cat d (format_outcome cat d).reply
 unfolding first_refusal
-format-lowest_refusal cat d =
+format_lowest_refusal cat d =
     subst (λ (x : Outcome). FormatRefused cat d x.reply) (sym (format_in_is v cat d))
     (go (wrong_catalogue v cat) (no_disk v d) (decides_length cat) (decides_no_disk v d))
   where

@@ -11,7 +11,7 @@ use Rattle.layout.proofs.Occurs.{length-blocks}
 use Rattle.layout.proofs.Zipped.{map-map}
 use Rattle.layout.specs.Layout.{File, Found, block_count, blocks_of, by_id, file_blocks, find_file, found, has_file}
 use Rattle.layout.specs.Layout.{is_found, missing}
-use Rattle.layout.specs.Lists.{Each, Zipped, both, ends, insertBy, sum_of}
+use Rattle.layout.specs.Lists.{Each, Zipped, both, ends, insert_by, sum_of}
 use Rattle.layout.specs.Merges.{InDisk, Moved, origin}
 use Rattle.layout.specs.Removals.{Find, here, there}
 use Rattle.layout.specs.Removing.{Copy}
@@ -71,17 +71,17 @@ noted-file d i l = ap noted (line_with_lem d i l) ∙ noted_found d (find_file i
 
 -- it writes a line as the catalogue does an entry
 pub write_line_lem : (d : List ℕ) (f : File) (l : List File)
-    → write_line (line_on d f) (map (line_on d) l) ≡ map (line_on d) (insertBy by_id f l)
-unfolding write_line insertBy
+    → write_line (line_on d f) (map (line_on d) l) ≡ map (line_on d) (insert_by by_id f l)
+unfolding write_line insert_by
 write_line_lem d f [] = refl
 write_line_lem d f (g ∷ l) = go (leb f.id g.id) (write_line_lem d f l)
   where
-    go : (t : Bool) → write_line (line_on d f) (map (line_on d) l) ≡ map (line_on d) (insertBy by_id f l)
+    go : (t : Bool) → write_line (line_on d f) (map (line_on d) l) ≡ map (line_on d) (insert_by by_id f l)
         → elim t as (λ _. List Line) [
           | true ↦ line_on d f ∷ line_on d g ∷ map (line_on d) l
           | false ↦ line_on d g ∷ write_line (line_on d f) (map (line_on d) l)
         ]
-        ≡ map (line_on d) (elim t as (λ _. List File) [ true ↦ f ∷ g ∷ l | false ↦ g ∷ insertBy by_id f l ])
+        ≡ map (line_on d) (elim t as (λ _. List File) [ true ↦ f ∷ g ∷ l | false ↦ g ∷ insert_by by_id f l ])
     go true e = refl
     go false e = ap (λ z. line_on d g ∷ z) e
 

@@ -49,11 +49,11 @@ pages-not k bs (some, e) (inr w) = w (omega arith)
 
 module _ {cat : List ℕ} {l : Layout} (h : CatalogueOf cat l) (d : List ℕ) (ld : length d ≡ 512 * l.blocks) where
   -- id 0 gives 5 from add, remove, replace, read and breaks
-  pub id-zero_refused : (p : ℕ) (bs o : List ℕ)
+  pub id_zero_refused : (p : ℕ) (bs o : List ℕ)
       → Gives cat d (add 0 bs) 5 × Gives cat d (remove 0) 5 × Gives cat d (replace 0 bs) 5
       × Gives cat d (read 0 p o) 5
       × Gives cat d (breaks 0) 5
-  id-zero_refused p bs o = (
+  id_zero_refused p bs o = (
     zero (add 0 bs) refl refl refl,
     zero (remove 0) refl refl refl,
     zero (replace 0 bs) refl refl refl,
@@ -99,8 +99,8 @@ module _ {cat : List ℕ} {l : Layout} (h : CatalogueOf cat l) (d : List ℕ) (l
             (clear-id (add i bs) refl)
 
         -- a content of another length than that of whole pages, or of none, gives 8
-        pub add-length_refused : NoPages bs → Gives cat d (add i bs) 8
-        add-length_refused wrong =
+        pub add_length_refused : NoPages bs → Gives cat d (add i bs) 8
+        add_length_refused wrong =
             gives-first cat d (add i bs) (encoded_bytes h) buffer_length refl wrong clear_there refl
 
         module _ (k : ℕ) (pages : Pages k bs) where
@@ -148,8 +148,8 @@ module _ {cat : List ℕ} {l : Layout} (h : CatalogueOf cat l) (d : List ℕ) (l
 
       module _ (p : ℕ) (o : List ℕ) where
         -- an output of another length than that of whole pages, or of none, gives 8
-        pub read-length_refused : NoPages o → Gives cat d (read i p o) 8
-        read-length_refused wrong =
+        pub read_length_refused : NoPages o → Gives cat d (read i p o) 8
+        read_length_refused wrong =
             gives-first cat d (read i p o) (encoded_bytes h) buffer_length refl wrong (clear_found (read i p o) refl)
             refl
 

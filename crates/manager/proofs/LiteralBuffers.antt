@@ -15,7 +15,7 @@ use Rattle.layout.specs.Layout.{Layout}
 use Rattle.layout.specs.Lists.{done, more}
 use Rattle.manager.proofs.Catalogues.{encoded_bytes, one-layout}
 use Rattle.manager.proofs.FormatLimits.{other_length}
-use Rattle.manager.proofs.FormatRefusals.{format-lowest_refusal}
+use Rattle.manager.proofs.FormatRefusals.{format_lowest_refusal}
 use Rattle.manager.proofs.GivenFirst.{Clear, covers_before, gives-first}
 use Rattle.manager.specs.Call.{Call, add, breaks, check, free, read, remove, replace, which}
 use Rattle.manager.specs.Changes.{Gives}
@@ -42,7 +42,7 @@ module _ (cat d : List ℕ) (c : Call) (bytes : Bytes cat) where
   pub other_length_refused : (length cat ≡ 4096 → ⊥) → (length cat ≡ 16384 → ⊥) → Gives cat d c 1
   other_length_refused small large =
       gives-first cat d c bytes catalogue_length (ap (is_listed 1) (begins c).1)
-      ((format-lowest_refusal cat d).catalogue_length.0 (other_length cat d small large)) done
+      ((format_lowest_refusal cat d).catalogue_length.0 (other_length cat d small large)) done
       (ap (covers_before 1 []) (begins c).1)
 
   -- one of these lengths that is the catalogue of no sound layout gives 3, whatever the call
@@ -64,12 +64,12 @@ module _ (cat d : List ℕ) where
   Blocks most = (C : ℕ) × (1 ≤ C) × (C ≤ most) × (length d ≡ 512 * C)
 
   -- with the small catalogue a disk of another length than that of 1 to 4,096 blocks gives 2
-  pub small-format_refused : length cat ≡ 4096 → (Blocks 4096 → ⊥) → (format_outcome cat d).reply ≡ refused 2
-  small-format_refused n other = (format-lowest_refusal cat d).disk_length.1 (version1, here, n, other)
+  pub small_format_refused : length cat ≡ 4096 → (Blocks 4096 → ⊥) → (format_outcome cat d).reply ≡ refused 2
+  small_format_refused n other = (format_lowest_refusal cat d).disk_length.1 (version1, here, n, other)
 
   -- with the large one that of 1 to 1,048,576 blocks
-  pub large-format_refused : length cat ≡ 16384 → (Blocks 1048576 → ⊥) → (format_outcome cat d).reply ≡ refused 2
-  large-format_refused n other = (format-lowest_refusal cat d).disk_length.1 (version2, later here, n, other)
+  pub large_format_refused : length cat ≡ 16384 → (Blocks 1048576 → ⊥) → (format_outcome cat d).reply ≡ refused 2
+  large_format_refused n other = (format_lowest_refusal cat d).disk_length.1 (version2, later here, n, other)
 
 -- ---- the catalogue of a sound layout
 

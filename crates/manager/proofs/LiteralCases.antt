@@ -14,7 +14,7 @@ use Rattle.catalogue.specs.Version.{version_for}
 use Rattle.layout.specs.Adding.{allocate, take_first, take_piece}
 use Rattle.layout.specs.Helping.{candidates_of, helping_ids}
 use Rattle.layout.specs.Layout.{block_run, blocks_of, breaks_of, file_pieces, find_file, fresh_layout, in_range, pieces_from}
-use Rattle.layout.specs.Lists.{insertBy, sortBy}
+use Rattle.layout.specs.Lists.{insert_by, sort_by}
 use Rattle.layout.specs.Removing.{buddy_pair, copies_from, copies_of, copy_run, insert_all, layout_after, lowest_two, merge}
 use Rattle.layout.specs.Removing.{merge_all, merge_pair, next_merge, release, removal, without_file}
 use Rattle.manager.specs.Call.{Call, add, breaks, check, free, read, remove, replace, which}
@@ -29,7 +29,7 @@ use Rattle.section.specs.Sections.{buddy_first, is_aligned, is_inside, is_on_dis
 -- a call; who unfolds this unfolds every definition that computing a call takes
 unfoldable pub computed : Call → List ℕ → List ℕ → Outcome
 unfolding ones_in ones buddy_first parent_first is_aligned is_on_disk shares_block is_inside moved_into take_first take_piece
-    allocate file_pieces block_run blocks_of breaks_of find_file in_range pieces_from fresh_layout insertBy sortBy copy_run
+    allocate file_pieces block_run blocks_of breaks_of find_file in_range pieces_from fresh_layout insert_by sort_by copy_run
     copies_from buddy_pair lowest_two merge_pair merge next_merge merge_all copies_of layout_after insert_all without_file
     release removal big_endian pair_bytes pairs_bytes entry_bytes entries_bytes header_bytes used_bytes encode every pairwise
     is_sound read_from read_pair read_pairs file_read read_entry read_entries read_header read_layout judged read_catalogue

@@ -66,7 +66,7 @@ letters_compared = refl
 
 -- four blocks: id 1 at (0,1), id 2 at (2,2) (1,1). Its first page is block 2, and its last is block 1, that of its
 -- first pair. With Q in block 1 and R in block 2 it is replaced by D, and with R in block 1 and Q in block 2 it is not
-pub first-page_compared :
+pub first_page_compared :
     map
     (λ d. (perform (replace 2 (replicate 512 68))
     (bytes 4096 (0 ∷ 1 ∷ 0 ∷ 4 ∷ 0 ∷ 2 ∷ 0 ∷ 1 ∷ 0 ∷ 1 ∷ 0 ∷ 0 ∷ 0 ∷ 1
@@ -74,7 +74,7 @@ pub first-page_compared :
     ((0 ∷ 81 ∷ 82 ∷ 0 ∷ []) ∷ (0 ∷ 82 ∷ 81 ∷ 0 ∷ []) ∷ [])
     ≡ answered 0 ∷ refused 13 ∷ []
 unfolding computed
-first-page_compared = refl
+first_page_compared = refl
 
 -- ---- refusals
 

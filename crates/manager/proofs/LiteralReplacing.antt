@@ -57,8 +57,8 @@ module _ {cat : List ℕ} {l : Layout} (h : CatalogueOf cat l) (d : List ℕ) (l
   c = replace i bs
 
   -- 8 exactly if the content has another length than that of whole pages, or none
-  pub replace-length_refused : Gives cat d (replace i bs) 8 ↔ NoPages bs
-  replace-length_refused = (
+  pub replace_length_refused : Gives cat d (replace i bs) 8 ↔ NoPages bs
+  replace_length_refused = (
     λ q. (first_given cat d c (encoded_bytes h) buffer_length q).given,
     λ wrong.
         gives-first cat d c (encoded_bytes h) buffer_length refl wrong (clear_found h d ld i some f e c refl) refl,
@@ -115,9 +115,9 @@ module _ {cat : List ℕ} {l : Layout} (h : CatalogueOf cat l) (d : List ℕ) (l
 
       -- 13 exactly if that byte is one of the four, and that of the stored first page the same or a later one,
       -- whatever k
-      pub letter-not_above_refused : Gives cat d (replace i bs) 13
+      pub letter_not_above_refused : Gives cat d (replace i bs) 13
           ↔ NotAbove (get_or bs 6 0) (get_or d (512 * s.first + 6) 0)
-      letter-not_above_refused = (to, from)
+      letter_not_above_refused = (to, from)
         where
           to : Gives cat d c 13 → NotAbove new stored
           to q =
@@ -175,7 +175,7 @@ module _ {cat : List ℕ} {l : Layout} (h : CatalogueOf cat l) (d : List ℕ) (l
           ∙ remove_answers h d ld i some f e
 
       -- also with 64 files there
-      pub full-replace_answers : length l.files ≡ 64 → Above (get_or bs 6 0) (get_or d (512 * s.first + 6) 0)
+      pub full_replace_answers : length l.files ≡ 64 → Above (get_or bs 6 0) (get_or d (512 * s.first + 6) 0)
           → k ≤ free_blocks l + file_blocks f
           → (perform (replace i bs) cat d).reply ≡ answered (length (copies_of (removal 21 f l)))
-      full-replace_answers full = replace_answers
+      full_replace_answers full = replace_answers

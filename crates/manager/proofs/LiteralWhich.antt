@@ -18,7 +18,7 @@ use Rattle.manager.proofs.LiteralCases.{Refuses, bytes, computed, entries, with_
 use Rattle.manager.proofs.NumberPlaces.{Among, listed_among}
 use Rattle.manager.proofs.Refusals.{answered_not_refused, fits_not_refused}
 use Rattle.manager.proofs.WhichCases.{not_fitting}
-use Rattle.manager.proofs.WhichFromSound.{which-gives_help}
+use Rattle.manager.proofs.WhichFromSound.{which_gives_help}
 use Rattle.manager.specs.Book.{count_from}
 use Rattle.manager.specs.Call.{Call, which}
 use Rattle.manager.specs.Changes.{Gives}
@@ -40,8 +40,8 @@ module _ {cat : List ℕ} {l : Layout} (h : CatalogueOf cat l) (d : List ℕ) (n
   c = which n o
 
   -- 8 exactly if n is 0, whatever the list
-  pub which-zero_refused : Gives cat d (which n o) 8 ↔ (n ≡ 0)
-  which-zero_refused = (
+  pub which_zero_refused : Gives cat d (which n o) 8 ↔ (n ≡ 0)
+  which_zero_refused = (
     λ q. (first_given cat d c (encoded_bytes h) buffer_length q).given,
     λ z. gives-first cat d c (encoded_bytes h) buffer_length refl z (clear_catalogue h d c) refl,
   )
@@ -68,7 +68,7 @@ module _ {cat : List ℕ} {l : Layout} (h : CatalogueOf cat l) (d : List ℕ) (n
   asked r none e = (some, equal_if_never_unequal (length o) 64 places)
     where
       zero : n ≡ 0 → ⊥
-      zero z = none 8 (sym e ∙ which-zero_refused.1 z)
+      zero z = none 8 (sym e ∙ which_zero_refused.1 z)
 
       some : 1 ≤ n
       some = omega (arith, zero)
@@ -79,14 +79,14 @@ module _ {cat : List ℕ} {l : Layout} (h : CatalogueOf cat l) (d : List ℕ) (n
   -- "fits already" exactly if n is at least 1 and at most f, and the list has 64 places
   pub which_fits_exactly : ((perform (which n o) cat d).reply ≡ fits_already)
       ↔ ((1 ≤ n) × (n ≤ free_blocks l) × (length o ≡ 64))
-  which_fits_exactly = (to, λ w. ((which-gives_help n o cat d l h w.0 w.2).fits w.1).0)
+  which_fits_exactly = (to, λ w. ((which_gives_help n o cat d l h w.0 w.2).fits w.1).0)
     where
       to : (perform c cat d).reply ≡ fits_already → (1 ≤ n) × (n ≤ free_blocks l) × (length o ≡ 64)
       to e =
           let w = asked fits_already fits_not_refused e in
           elim (below_or_not (free_blocks l) n) [
             | inl less ↦
-                (let x = (which-gives_help n o cat d l h w.0 w.1).ids less in
+                (let x = (which_gives_help n o cat d l h w.0 w.1).ids less in
                 not_fitting (length x.0) (sym e ∙ x.2))
             | inr most ↦ (w.0, most, w.1)
           ]
@@ -96,7 +96,7 @@ module _ {cat : List ℕ} {l : Layout} (h : CatalogueOf cat l) (d : List ℕ) (n
       ↔ ((1 ≤ n) × (free_blocks l < n) × (length o ≡ 64))
   which_counts_exactly = (
     λ x. to x.0 x.1,
-    λ w. let x = (which-gives_help n o cat d l h w.0 w.2).ids w.1 in (length x.0, x.2),
+    λ w. let x = (which_gives_help n o cat d l h w.0 w.2).ids w.1 in (length x.0, x.2),
   )
     where
       to : (k : ℕ) → (perform c cat d).reply ≡ answered k → (1 ≤ n) × (free_blocks l < n) × (length o ≡ 64)
@@ -105,7 +105,7 @@ module _ {cat : List ℕ} {l : Layout} (h : CatalogueOf cat l) (d : List ℕ) (n
           elim (below_or_not (free_blocks l) n) [
             | inl less ↦ (w.0, less, w.1)
             | inr most ↦
-                not_fitting k (sym ((which-gives_help n o cat d l h w.0 w.1).fits most).0 ∙ e)
+                not_fitting k (sym ((which_gives_help n o cat d l h w.0 w.1).fits most).0 ∙ e)
           ]
 
 -- ---- computed

@@ -57,37 +57,37 @@ removes_numeric i cat d (sound l) = go (find_file i l.files)
     go missing = tt
 
 -- what a call other than `which` replies past its conditions
-numeric_or-which : (c : Call) (cat d : List ℕ) (x : Reading) → Numeric (reply_of c cat d x) ⊎ Asking c
-numeric_or-which (add i bs) cat d unsound = inl tt
-numeric_or-which (add i bs) cat d (sound l) = inl (go (allocate 0 height_count (page_count bs) l.free))
+numeric_or_which : (c : Call) (cat d : List ℕ) (x : Reading) → Numeric (reply_of c cat d x) ⊎ Asking c
+numeric_or_which (add i bs) cat d unsound = inl tt
+numeric_or_which (add i bs) cat d (sound l) = inl (go (allocate 0 height_count (page_count bs) l.free))
   where
     go : (a : Allocated) → Numeric (add_pieces (version_of cat) i bs cat d l a).reply
     go (allocated s r) = tt
     go too_few = tt
-numeric_or-which (remove i) cat d x = inl (removes_numeric i cat d x)
-numeric_or-which (replace i bs) cat d x =
+numeric_or_which (remove i) cat d x = inl (removes_numeric i cat d x)
+numeric_or_which (replace i bs) cat d x =
     inl (past_conditions (remove i) cat d (removes_numeric i cat d (read_catalogue (version_of cat) cat)))
-numeric_or-which (read i p o) cat d unsound = inl tt
-numeric_or-which (read i p o) cat d (sound l) = inl (go (find_file i l.files))
+numeric_or_which (read i p o) cat d unsound = inl tt
+numeric_or_which (read i p o) cat d (sound l) = inl (go (find_file i l.files))
   where
     go : (x : Found) → Numeric (read_found p o cat d x).reply
     go (found f) = tt
     go missing = tt
-numeric_or-which (breaks i) cat d unsound = inl tt
-numeric_or-which (breaks i) cat d (sound l) = inl (go (find_file i l.files))
+numeric_or_which (breaks i) cat d unsound = inl tt
+numeric_or_which (breaks i) cat d (sound l) = inl (go (find_file i l.files))
   where
     go : (x : Found) → Numeric (breaks_found x)
     go (found f) = tt
     go missing = tt
-numeric_or-which (which n o) cat d x = inr (n, o, refl)
-numeric_or-which free cat d unsound = inl tt
-numeric_or-which free cat d (sound l) = inl tt
-numeric_or-which check cat d unsound = inl tt
-numeric_or-which check cat d (sound l) = inl tt
+numeric_or_which (which n o) cat d x = inr (n, o, refl)
+numeric_or_which free cat d unsound = inl tt
+numeric_or_which free cat d (sound l) = inl tt
+numeric_or_which check cat d unsound = inl tt
+numeric_or_which check cat d (sound l) = inl tt
 
 pub only_which_fits : (c : Call) (cat d : List ℕ) → (perform c cat d).reply ≡ fits_already
     → (n : ℕ) × (o : List ℕ) × (c ≡ which n o)
-only_which_fits c cat d e = go (numeric_or-which c cat d (read_catalogue (version_of cat) cat))
+only_which_fits c cat d e = go (numeric_or_which c cat d (read_catalogue (version_of cat) cat))
   where
     go : Numeric (reply_of c cat d (read_catalogue (version_of cat) cat)) ⊎ Asking c → Asking c
     go (inl h) = absurd (subst Numeric e (past_conditions c cat d h))
@@ -123,16 +123,16 @@ either : (b : Bool) (x y : BookStep) → Ordered x.reply → Ordered y.reply →
 either = either_side (λ (x : BookStep). Ordered x.reply)
 
 -- the book at a call other than `which`
-pub ordered_or-which : (c : Call) (b : Book) → Ordered (in_book c b).reply ⊎ Asking c
-ordered_or-which (add i bs) b =
+pub ordered_or_which : (c : Call) (b : Book) → Ordered (in_book c b).reply ⊎ Asking c
+ordered_or_which (add i bs) b =
     inl (either (eqb i 0) _ _ tt
     (either (noted (line_with i b.lines)) _ _ tt
     (either (not (is_whole bs)) _ _ tt
     (either (leb most_lines (length b.lines)) _ _ tt
     (either (ltb (book_free b) (book_pages bs)) _ _ tt tt)))))
-ordered_or-which (remove i) b =
+ordered_or_which (remove i) b =
     inl (either (eqb i 0) _ _ tt (either (not (noted (line_with i b.lines))) _ _ tt tt))
-ordered_or-which (replace i bs) b = inl (either (eqb i 0) _ _ tt (go (line_with i b.lines)))
+ordered_or_which (replace i bs) b = inl (either (eqb i 0) _ _ tt (go (line_with i b.lines)))
   where
     go : (x : LineFound) → Ordered (book_replace_line i bs b x).reply
     go no_line = tt
@@ -141,14 +141,14 @@ ordered_or-which (replace i bs) b = inl (either (eqb i 0) _ _ tt (go (line_with 
         (either (eqb (book_rank (content_pages bs)) 0) _ _ tt
         (either (leb (book_rank (content_pages bs)) (book_rank x.pages)) _ _ tt
         (either (ltb (book_free b + length x.pages) (book_pages bs)) _ _ tt tt)))
-ordered_or-which (read i p o) b = inl (either (eqb i 0) _ _ tt (go (line_with i b.lines)))
+ordered_or_which (read i p o) b = inl (either (eqb i 0) _ _ tt (go (line_with i b.lines)))
   where
     go : (x : LineFound) → Ordered (book_read_line p o b x).reply
     go no_line = tt
     go (line x) =
         either (not (is_whole o)) _ _ tt (either (ltb (length x.pages) (p + book_pages o)) _ _ tt tt)
-ordered_or-which (breaks i) b =
+ordered_or_which (breaks i) b =
     inl (either (eqb i 0) _ _ tt (either (not (noted (line_with i b.lines))) _ _ tt tt))
-ordered_or-which (which n o) b = inr (n, o, refl)
-ordered_or-which free b = inl tt
-ordered_or-which check b = inl tt
+ordered_or_which (which n o) b = inr (n, o, refl)
+ordered_or_which free b = inl tt
+ordered_or_which check b = inl tt

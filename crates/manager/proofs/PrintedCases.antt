@@ -9,7 +9,7 @@ use Rattle.catalogue.specs.Cases.{case_eight, case_eleven, case_seven, case_thre
 use Rattle.catalogue.specs.Reading.{judged, read_catalogue, read_from, read_header, read_layout}
 use Rattle.catalogue.specs.Version.{version_for}
 use Rattle.layout.specs.Layout.{Layout}
-use Rattle.layout.specs.Lists.{insertBy, sortBy}
+use Rattle.layout.specs.Lists.{insert_by, sort_by}
 use Rattle.manager.specs.Cases.{codes, lines}
 use Rattle.manager.specs.Printing.{all_file_lines, decimal, decimal_in, file_lines, first_line, layout_text, pair_line}
 use Rattle.manager.specs.Printing.{pair_lines, printed, printed_in, refusal_text}
@@ -31,7 +31,7 @@ pub case_three_text : layout_text case_three
     ∷ "260 1"
     ∷ []
     )
-unfolding layout_text first_line all_file_lines file_lines pair_lines pair_line decimal_in sortBy insertBy
+unfolding layout_text first_line all_file_lines file_lines pair_lines pair_line decimal_in sort_by insert_by
 case_three_text = refl
 
 -- the whole output that document 01 gives
@@ -48,7 +48,7 @@ pub case_seven_text : layout_text case_seven
     ∷ "8 8"
     ∷ []
     )
-unfolding layout_text first_line all_file_lines file_lines pair_lines pair_line decimal_in sortBy insertBy
+unfolding layout_text first_line all_file_lines file_lines pair_lines pair_line decimal_in sort_by insert_by
 case_seven_text = refl
 
 -- the pairs of id 7 by first block; the line "free" stands though nothing is free
@@ -68,7 +68,7 @@ pub case_eight_text : layout_text case_eight
     ∷ "free"
     ∷ []
     )
-unfolding layout_text first_line all_file_lines file_lines pair_lines pair_line decimal_in sortBy insertBy
+unfolding layout_text first_line all_file_lines file_lines pair_lines pair_line decimal_in sort_by insert_by
 case_eight_text = refl
 
 -- the pairs of id 2 by first block
@@ -86,7 +86,7 @@ pub case_eleven_text : layout_text case_eleven
     ∷ "4 4"
     ∷ []
     )
-unfolding layout_text first_line all_file_lines file_lines pair_lines pair_line decimal_in sortBy insertBy
+unfolding layout_text first_line all_file_lines file_lines pair_lines pair_line decimal_in sort_by insert_by
 case_eleven_text = refl
 
 -- the greatest disk, and the greatest id
@@ -106,7 +106,7 @@ pub greatest_numbers_text : layout_text halves
     ∷ "0 524288"
     ∷ []
     )
-unfolding layout_text first_line all_file_lines file_lines pair_lines pair_line decimal_in sortBy insertBy
+unfolding layout_text first_line all_file_lines file_lines pair_lines pair_line decimal_in sort_by insert_by
 greatest_numbers_text = refl
 
 pub refusal_texts : (refusal_text 1 ≡ lines ("refused 1" ∷ [])) × (refusal_text 3 ≡ lines ("refused 3" ∷ []))

@@ -45,10 +45,10 @@ each_take zero l e = done
 each_take (suc n) [] e = done
 each_take (suc n) (a ∷ l) (more p e) = more {a = a} p (each_take n l e)
 
-each-drop {ℓ κ} : {A : Type ℓ} {P : A → Type κ} (n : ℕ) (l : List A) → Each P l → Each P (drop n l)
-each-drop zero l e = e
-each-drop (suc n) [] e = done
-each-drop (suc n) (a ∷ l) (more p e) = each-drop n l e
+each_drop {ℓ κ} : {A : Type ℓ} {P : A → Type κ} (n : ℕ) (l : List A) → Each P l → Each P (drop n l)
+each_drop zero l e = e
+each_drop (suc n) [] e = done
+each_drop (suc n) (a ∷ l) (more p e) = each_drop n l e
 
 module _ (v : Version) (room : Roomy v) (l : Layout) (s : Sound v.heights l) (d : List ℕ)
     (ld : length d ≡ block_size * l.blocks) where
@@ -92,7 +92,7 @@ module _ (v : Version) (room : Roomy v) (l : Layout) (s : Sound v.heights l) (d 
       let count : length part ≡ page_count o =
       length-take (page_count o) (drop p ps) ∙ omega (arith, length-drop p ps, pages-length d f.pieces) in
       ap (λ (x : Outcome). length x.output) (read_from_sound i p o f least e paged fits)
-      ∙ (join_length (each_take (page_count o) (drop p ps) (each-drop p ps (file_paged i f e)))
+      ∙ (join_length (each_take (page_count o) (drop p ps) (each_drop p ps (file_paged i f e)))
       ∙ (ap (λ n. block_size * n) count ∙ (paged_length o paged).1))
 
 -- adding a content and reading all of it gives it back

@@ -77,12 +77,12 @@ module _ (cat d : List ℕ) (l : Layout) (h : CatalogueOf cat l) where
   pub there_row : (i : ℕ) → Decides ((m : Layout) × CatalogueOf cat m × (NoFile i m → ⊥)) (has_file i l.files)
   there_row i = decides_layout (λ m. NoFile i m → ⊥) (decides_opposite (has_file i l.files) (decides_no_file i l))
 
-  pub past_end-row : (i first count : ℕ)
+  pub past_end_row : (i first count : ℕ)
       → Decides
       ((m : Layout) × CatalogueOf cat m × (f : File) × (find_file i m.files ≡ found f)
       × (file_blocks f < first + count))
       (beyond (find_file i l.files) first count)
-  past_end-row i first count =
+  past_end_row i first count =
       decides_file i (λ f. file_blocks f < first + count) (λ x. beyond x first count)
       (λ f. decides_below (file_blocks f) (first + count)) refl
 

@@ -14,7 +14,7 @@ use Rattle.catalogue.proofs.Roomy.{roomy, version_of-one}
 use Rattle.catalogue.specs.Reading.{read_catalogue}
 use Rattle.catalogue.specs.Version.{version_of}
 use Rattle.layout.proofs.Helping.{helping_length}
-use Rattle.layout.proofs.Lists.{each-head, each_tail}
+use Rattle.layout.proofs.Lists.{each_head, each_tail}
 use Rattle.layout.specs.Helping.{helping_ids}
 use Rattle.layout.specs.Layout.{Layout, free_blocks}
 use Rattle.layout.specs.Lists.{done, more}
@@ -42,9 +42,9 @@ which_allowed n o some places =
 allowed_which : (n : ℕ) (o : List ℕ) → first_refusal (which_checks n o) ≡ allowed → (1 ≤ n) × (length o ≡ most_files)
 allowed_which n o e =
     let p = allowed_none (which_checks n o) e in
-    let nonzero = eqb-false n 0 (each-head p) in (
+    let nonzero = eqb-false n 0 (each_head p) in (
       omega (arith, nonzero),
-      eqb-true (length o) most_files (not-false (eqb (length o) most_files) (each-head (each_tail p))),
+      eqb-true (length o) most_files (not-false (eqb (length o) most_files) (each_head (each_tail p))),
     )
 
 -- ---- past the conditions

@@ -67,8 +67,8 @@ help_pinned n cat d l x rise g =
 
 module _ (n : ℕ) (o cat d : List ℕ) (l : Layout) (w : CatalogueOf cat l) where
   -- on every sound catalogue, whatever the disk
-  pub which-gives_help : 1 ≤ n → length o ≡ most_files → GivesHelp l n cat d (perform (which n o) cat d)
-  which-gives_help some places =
+  pub which_gives_help : 1 ≤ n → length o ≡ most_files → GivesHelp l n cat d (perform (which n o) cat d)
+  which_gives_help some places =
       subst (λ z. GivesHelp l n z d (perform (which n o) z d)) (sym w.encoded)
       (subst (GivesHelp l n (encode v l) d) (sym (which_on_sound v (roomy w.known) l w.rules n o d))
       (subst (λ j. GivesHelp l n (encode v l) d (unless_refused j (encode v l) d o (help_for n (encode v l) d l)))
@@ -86,7 +86,7 @@ module _ (n : ℕ) (o cat d : List ℕ) (l : Layout) (w : CatalogueOf cat l) whe
       asked = which-asked n o cat d k r
 
       help : GivesHelp l n cat d (perform (which n o) cat d)
-      help = which-gives_help asked.0 asked.1
+      help = which_gives_help asked.0 asked.1
 
       go : (free_blocks l < n) ⊎ (n ≤ free_blocks l)
           → InCopyOrder height_count l (take k (perform (which n o) cat d).output)

@@ -3,7 +3,7 @@
 use Rattle.std.specs.Prelude.{true, false, List, [], ◌∷◌, ◌++◌, ℕ, zero, suc, ◌+◌, ◌/◌, ◌%◌, ltb, eqb, length}
 use Rattle.section.specs.declared.Section.{Section}
 use Rattle.section.specs.Sections.{length_of}
-use Rattle.layout.specs.Lists.{sortBy}
+use Rattle.layout.specs.Lists.{sort_by}
 use Rattle.layout.specs.Layout.{File, Layout, by_first, file_blocks, free_blocks}
 use Rattle.catalogue.specs.Version.{version_of}
 use Rattle.catalogue.specs.declared.Version.{Version}
@@ -58,7 +58,7 @@ unfoldable pub file_lines : File → List ℕ
 file_lines f =
     file_word
     ++ (space ++ (decimal f.id ++ (space ++ (blocks_word ++ (space ++ (decimal (file_blocks f) ++ line_end))))))
-    ++ pair_lines (sortBy by_first f.pieces)
+    ++ pair_lines (sort_by by_first f.pieces)
 
 unfoldable pub all_file_lines : List File → List ℕ
 all_file_lines [] = []

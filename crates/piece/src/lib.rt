@@ -1,13 +1,15 @@
 // A piece in one word: its first block and its height.
 //
 // Tables and lists of pieces go by value, so what a call costs depends on how long a piece is.
+#![tactic(auto)]
+
 ghost use Rattle.std.specs.Prelude.{◌≡◌};
 ghost use Rattle.piece.specs.Packed.{FitsWord, Packs, section_in};
 
 use section::{Height, Section};
 
 // The first block times the number of heights that a word tells apart, plus the height.
-#[derive(Drop)]
+#[derive(Clone, Copy)]
 pub struct Piece {
     pub word: u32,
 }

@@ -2,6 +2,8 @@
 //
 // A list is the first `count` items of an array, so each value stands for one list of the definitions. One of this size
 // is passed on without a call that copies it.
+#![tactic(auto)]
+
 use piece::Piece;
 use section::Height;
 
@@ -9,7 +11,7 @@ mod breaks;
 mod sorting;
 
 // Few pieces: no more than a file of a sound layout has, or its free space.
-#[derive(Drop)]
+#[derive(Clone, Copy)]
 pub struct Pieces {
     pub count: usize,
     pub items: [Piece; Pieces::PLACES],
@@ -21,7 +23,7 @@ impl Pieces {
 }
 
 // The orders of pieces: the one of the bytes, by rising first block, and page order, by falling length.
-#[derive(Drop)]
+#[derive(Clone, Copy)]
 pub enum Order {
     First,
     Length,

@@ -9,7 +9,7 @@ use lib.ListN.{length, take}
 use lib.Seq.{length-take-le}
 use Rattle.section.specs.Limits.{height_count}
 use Rattle.section.specs.declared.Section.{Section}
-use Rattle.layout.proofs.Lists.{each_and, each-imp, each_left, each_right, each-unmap}
+use Rattle.layout.proofs.Lists.{each_and, each_imp, each_left, each_right, each_unmap}
 use Rattle.layout.proofs.SoundSums.{each_files}
 use Rattle.layout.proofs.Soundness.{free-few}
 use Rattle.layout.specs.Layout.{file_pieces}
@@ -26,7 +26,7 @@ use Rattle.pieces.specs.Pieces.{Low, LowFiles}
 module _ (t : Table) (sized : Sized t) (sound : Sound height_count (layout_of t)) where
   all-low : Each Low (file_pieces (files_of t) ++ free_of t.free)
   unfolding layout_of
-  all-low = each-imp (λ (s : Section) (h : s.height.value < height_count). omega arith) sound.heights
+  all-low = each_imp (λ (s : Section) (h : s.height.value < height_count). omega arith) sound.heights
 
   pub free-low : Each Low (free_of t.free)
   free-low = each_right (file_pieces (files_of t)) (free_of t.free) all-low
@@ -44,8 +44,8 @@ module _ (t : Table) (sized : Sized t) (sound : Sound height_count (layout_of t)
   files-low = record {
     most = sized.files;
     each =
-        each-imp (λ (e : Entry) p. record { places = p.0; low = p.1 })
+        each_imp (λ (e : Entry) p. record { places = p.0; low = p.1 })
         (each_and (each_take t.count sized.each)
-        (each-unmap file_of (take t.count t.files)
+        (each_unmap file_of (take t.count t.files)
         (each_files (files_of t) (each_left (file_pieces (files_of t)) (free_of t.free) all-low))));
   }

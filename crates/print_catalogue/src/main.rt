@@ -1,6 +1,8 @@
 // Prints the catalogue that stands on standard input, small or large, as document 01 has it in "Printing a catalogue".
 //
 // `print_input` makes the whole text, for every input; `main` only reads and writes.
+#![tactic(auto)]
+
 ghost use Rattle.std.specs.Prelude.{◌≡◌, ◌≤◌, ◌+◌, length};
 ghost use Rattle.catalogue.specs.Version.{version2};
 ghost use Rattle.manager.specs.Printing.{printed};

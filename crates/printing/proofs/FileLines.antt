@@ -3,7 +3,7 @@ use mathlib.Core.List.{List, ◌++◌}
 use mathlib.Core.Path.{◌∙◌, ◌≡◌, ap}
 use Prim.Native.Nat.{ℕ}
 use Rattle.layout.specs.Layout.{File, Layout, by_first, file_blocks, free_blocks}
-use Rattle.layout.specs.Lists.{sortBy}
+use Rattle.layout.specs.Lists.{sort_by}
 use Rattle.manager.specs.Printing.{file_lines, first_line, pair_lines}
 use Rattle.section.specs.declared.Section.{Section}
 use Rattle.printing.proofs.TextRoom.{blocks_start, file_middle, file_start, free_middle}
@@ -11,7 +11,7 @@ use Rattle.texts.proofs.Writing.{appends_same, joined, room_after, room-first, r
 use Rattle.texts.specs.Lines.{Appends, Room, line_of}
 
 -- n is a file's number of blocks, and l its pieces by first block
-module _ (f : File) (n : ℕ) (l : List Section) (e : n ≡ file_blocks f) (p : l ≡ sortBy by_first f.pieces) where
+module _ (f : File) (n : ℕ) (l : List Section) (e : n ≡ file_blocks f) (p : l ≡ sort_by by_first f.pieces) where
   parts : line_of file_start f.id file_middle n ++ pair_lines l ≡ file_lines f
   unfolding file_lines
   parts =

@@ -6,7 +6,7 @@ use native.Mathlib.Omega.{arith}
 use lib.ListN.{length, take}
 use Rattle.piece_lists.specs.Few.{list_of, piece_places}
 use Rattle.section.specs.Limits.{height_count}
-use Rattle.layout.proofs.Lists.{each-imp, each_map}
+use Rattle.layout.proofs.Lists.{each_imp, each_map}
 use Rattle.layout.specs.Layout.{File, file_blocks}
 use Rattle.layout.specs.Lists.{Each, sum_of}
 use Rattle.layout.specs.Sound.{Sound}
@@ -34,7 +34,7 @@ module _ (t : Table) (z : Sized t) (s : Sound height_count (layout_of t)) where
   unfolding files_of list_of
   few_pieces =
       each_map file_of
-      (each-imp (λ (a : Entry) h. omega (arith, take_most a.pieces.count (seen a.pieces.items)))
+      (each_imp (λ (a : Entry) h. omega (arith, take_most a.pieces.count (seen a.pieces.items)))
       (each_take t.count z.each))
 
   few_free : length (free_of t.free) ≤ free_places

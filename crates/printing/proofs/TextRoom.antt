@@ -8,9 +8,9 @@ use lib.ListN.{length, length-append}
 use Rattle.section.specs.Limits.{most_files}
 use Rattle.free_pieces.specs.Free.{free_places}
 use Rattle.piece_lists.specs.Few.{piece_places}
-use Rattle.layout.proofs.Lists.{length-sort}
+use Rattle.layout.proofs.Lists.{length_sort}
 use Rattle.layout.specs.Layout.{File, Layout, by_first, file_blocks, free_blocks}
-use Rattle.layout.specs.Lists.{Each, done, more, sortBy}
+use Rattle.layout.specs.Lists.{Each, done, more, sort_by}
 use Rattle.manager.specs.Printing.{all_file_lines, blocks_word, file_lines, file_word, first_line, free_word}
 use Rattle.manager.specs.Printing.{layout_text, pair_line, pair_lines, refusal_text, space}
 use Rattle.section.specs.Sections.{length_of}
@@ -47,10 +47,10 @@ free_middle = space ++ (free_word ++ space)
 
 pub file_size : (f : File)
     → length (file_lines f)
-    ≡ length (line_of file_start f.id file_middle (file_blocks f)) + length (pair_lines (sortBy by_first f.pieces))
+    ≡ length (line_of file_start f.id file_middle (file_blocks f)) + length (pair_lines (sort_by by_first f.pieces))
 unfolding file_lines
 file_size f =
-    length-append (line_of file_start f.id file_middle (file_blocks f)) (pair_lines (sortBy by_first f.pieces))
+    length-append (line_of file_start f.id file_middle (file_blocks f)) (pair_lines (sort_by by_first f.pieces))
 
 -- a file of at most 21 pieces
 pub file-length : (f : File) → length f.pieces ≤ piece_places → length (file_lines f) ≤ 496
@@ -60,8 +60,8 @@ file-length f h =
       arith,
       file_size f,
       line_length file_start f.id file_middle (file_blocks f),
-      pairs-length (sortBy by_first f.pieces),
-      length-sort by_first f.pieces,
+      pairs-length (sort_by by_first f.pieces),
+      length_sort by_first f.pieces,
     )
 
 files-length : {l : List File} → Each (λ (f : File). length f.pieces ≤ piece_places) l

@@ -1,6 +1,8 @@
 // The text of a catalogue and of a refusal, as document 01 has it in "Printing a catalogue".
 //
 // Every function writes behind what stands in the buffer already, and answers the place behind what it wrote.
+#![tactic(auto)]
+
 ghost use Rattle.std.specs.Prelude.{◌≤◌, length};
 ghost use Rattle.section.specs.Limits.{height_count};
 ghost use Rattle.layout.specs.Sound.{Sound};

@@ -5,7 +5,7 @@ use Prim.Native.Nat.{◌<◌, ◌≤◌, suc, zero, ℕ}
 use native.Mathlib.Decide.{dec_lt, ℕ_discrete}
 use native.Mathlib.Omega.{arith}
 use lib.ListN.{get_or}
-use Rattle.quality.proofs.Ranks.{rank-of_other, ranks_literal}
+use Rattle.quality.proofs.Ranks.{rank_of_other, ranks_literal}
 use Rattle.quality.specs.Letters.{rank_of}
 use Rattle.quality.specs.Ranking.{Above, IsLetter, NotAbove, Outside}
 
@@ -26,10 +26,10 @@ ranked-or-not x = go (ℕ_discrete x 82) (ℕ_discrete x 68) (ℕ_discrete x 81)
     go (no r) (yes e) q m = inr (1, (omega arith, e))
     go (no r) (no d) (yes e) m = inr (2, (omega arith, e))
     go (no r) (no d) (no q) (yes e) = inr (3, (omega arith, e))
-    go (no r) (no d) (no q) (no m) = inl ((r, d, q, m), rank-of_other x r d q m)
+    go (no r) (no d) (no q) (no m) = inl ((r, d, q, m), rank_of_other x r d q m)
 
 pub outside_rank : (x : ℕ) → Outside x ↔ (rank_of x ≡ 0)
-outside_rank x = (λ w. rank-of_other x w.0 w.1 w.2 w.3, from (ranked-or-not x))
+outside_rank x = (λ w. rank_of_other x w.0 w.1 w.2 w.3, from (ranked-or-not x))
   where
     from : (Outside x × (rank_of x ≡ 0)) ⊎ ((a : ℕ) × IsLetter a x) → rank_of x ≡ 0 → Outside x
     from (inl w) e = w.0

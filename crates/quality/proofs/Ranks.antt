@@ -15,9 +15,9 @@ unfolding rank_of
 ranks_literal = refl
 
 -- a letter outside the four ranks below all
-pub rank-of_other : (x : ℕ) → (x ≡ 82 → ⊥) → (x ≡ 68 → ⊥) → (x ≡ 81 → ⊥) → (x ≡ 77 → ⊥) → rank_of x ≡ 0
+pub rank_of_other : (x : ℕ) → (x ≡ 82 → ⊥) → (x ≡ 68 → ⊥) → (x ≡ 81 → ⊥) → (x ≡ 77 → ⊥) → rank_of x ≡ 0
 unfolding rank_of
-rank-of_other x r d q m = rw (ne_eqb x 82 r, ne_eqb x 68 d, ne_eqb x 81 q, ne_eqb x 77 m)
+rank_of_other x r d q m = rw (ne_eqb x 82 r, ne_eqb x 68 d, ne_eqb x 81 q, ne_eqb x 77 m)
 
 -- the letter is byte 6 of the first page, counted from 0
 pub first-letter : (p : List ℕ) (ps : List (List ℕ)) → first_letter (p ∷ ps) ≡ get_or p 6 0

@@ -1,9 +1,11 @@
 // The quality letter of a miniSEED record, and its rank.
+#![tactic(auto)]
+
 ghost use Rattle.std.specs.Prelude.{◌≡◌};
 ghost use Rattle.quality.specs.Letters.{letter_place, rank_of};
 
 // A byte that stands where the quality letter does.
-#[derive(Drop)]
+#[derive(Clone, Copy)]
 pub struct Letter {
     pub byte: u8,
 }
@@ -29,5 +31,5 @@ impl Letter {
 
 // The constant is that of the definition.
 pub fn place_agrees()
-    ensures* place { do ⌜ (← (⟦Letter::PLACE⟧).entry) ≡ letter_place ⌝ }
+    ensures place { Letter.PLACE ≡ letter_place }
 {}

@@ -14,7 +14,7 @@ use Rattle.section.specs.Nesting.{Placed, after, before, inside}
 use Rattle.section.specs.Sections.{buddy_first}
 use Rattle.section.proofs.Booleans.{and-swap, false_and}
 use Rattle.section.proofs.Multiples.{below_or_not, multiple_whole}
-use Rattle.section.proofs.Nested.{nested_or-apart}
+use Rattle.section.proofs.Nested.{nested_or_apart}
 
 -- the lowest bit flipped
 xor_one_even : (q : ℕ) → q % 2 ≡ 0 → bit_xor q 1 ≡ q + 1
@@ -100,7 +100,7 @@ mask-or g h l =
 
 shared_by_longer : (g h a b : ℕ) → g ≤ h → a % 2 ^ g ≡ 0 → b % 2 ^ h ≡ 0
     → leb (bit_xor a b) (2 ^ h - 1) ≡ (ltb a (b + 2 ^ h) && ltb b (a + 2 ^ g))
-shared_by_longer g h a b l ha hb = go (nested_or-apart g h a b l ha hb)
+shared_by_longer g h a b l ha hb = go (nested_or_apart g h a b l ha hb)
   where
     far : ((b ≤ a) × (a < b + 2 ^ h) → ⊥) → leb (bit_xor a b) (2 ^ h - 1) ≡ false
     far out = elim (below_or_not (bit_xor a b) (2 ^ h)) [

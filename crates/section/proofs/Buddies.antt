@@ -130,8 +130,8 @@ buddy_inside h i a x ha hx =
     (parent_has_buddy h a ha)
 
 -- of two sections of one height on a disk of c blocks the lower has its buddy on the disk
-pub buddy-of_lower : (h a u c : ℕ) → a % 2 ^ h ≡ 0 → u % 2 ^ h ≡ 0 → a < u → u + 2 ^ h ≤ c
+pub buddy_of_lower : (h a u c : ℕ) → a % 2 ^ h ≡ 0 → u % 2 ^ h ≡ 0 → a < u → u + 2 ^ h ≤ c
     → buddy_first h a + 2 ^ h ≤ c
-buddy-of_lower h a u c ha hu l f =
+buddy_of_lower h a u c ha hu l f =
     let g = multiple_gap (2 ^ h) a u ha hu l in
     elim (halves h a ha) [ lower s t ↦ omega arith | upper s t ↦ omega arith ]

@@ -26,8 +26,8 @@ length_unique h i e =
     ]
 
 -- the shorter one has the lower height
-pub pow-lt_inv : (h i : ℕ) → 2 ^ h < 2 ^ i → h < i
-pow-lt_inv h i p =
+pub pow_lt_inv : (h i : ℕ) → 2 ^ h < 2 ^ i → h < i
+pow_lt_inv h i p =
     elim (below_or_not h i) [ inl l ↦ l | inr l ↦ absurd (omega (arith, pow_mono {i = i} {j = h} l)) ]
 
 -- each power up to 2 ^ m is found
@@ -89,20 +89,20 @@ none_up_to : (m n : ℕ) → NoneUpTo m n → height_up_to m n ≡ Measured·.No
 none_up_to zero n r = simp (ne_eqb n 1 r.1)
 none_up_to (suc m) n r = simp (ne_eqb n (2 ^ suc m) r.1) (none_up_to m n r.0)
 
-pub no_length-of_match : (n : ℕ) → NoneUpTo greatest_height n → height_of n ≡ Measured·.NoLength
+pub no_length_of_match : (n : ℕ) → NoneUpTo greatest_height n → height_of n ≡ Measured·.NoLength
 unfolding height_of
-no_length-of_match n r = none_up_to greatest_height n r
+no_length_of_match n r = none_up_to greatest_height n r
 
 no_power_none : (m n : ℕ) → ((h : ℕ) → h ≤ m → n ≡ 2 ^ h → ⊥) → NoneUpTo m n
 no_power_none zero n p = (tt, p 0 (omega arith))
 no_power_none (suc m) n p = (no_power_none m n (λ h l. p h (omega arith)), p (suc m) (omega arith))
 
 -- and what is none of the powers is no length
-pub no_length-of_no_power : (n : ℕ) → ((h : ℕ) → h ≤ greatest_height → n ≡ 2 ^ h → ⊥)
+pub no_length_of_no_power : (n : ℕ) → ((h : ℕ) → h ≤ greatest_height → n ≡ 2 ^ h → ⊥)
     → height_of n ≡ Measured·.NoLength
-no_length-of_no_power n p = no_length-of_match n (no_power_none greatest_height n p)
+no_length_of_no_power n p = no_length_of_match n (no_power_none greatest_height n p)
 
 -- more than the greatest disk is no length
 pub no_length_above : (n : ℕ) → greatest_disk < n → height_of n ≡ Measured·.NoLength
 no_length_above n l =
-    no_length-of_no_power n (λ h m e. omega (arith, pow_mono {i = h} {j = greatest_height} m, length-greatest))
+    no_length_of_no_power n (λ h m e. omega (arith, pow_mono {i = h} {j = greatest_height} m, length-greatest))

@@ -47,9 +47,9 @@ unfolding moved_into
 moved_outside b u s e = simp e
 
 -- what lies apart from b stays
-pub moved-apart_stays : (b u s : Section) → Apart s.first (length_of s) b.first (length_of b)
+pub moved_apart_stays : (b u s : Section) → Apart s.first (length_of s) b.first (length_of b)
     → moved_into b u s ≡ s
-moved-apart_stays b u s apart = go (is_inside s b) refl apart
+moved_apart_stays b u s apart = go (is_inside s b) refl apart
   where
     go : (t : Bool) → is_inside s b ≡ t → Apart s.first (length_of s) b.first (length_of b) → moved_into b u s ≡ s
     go true e (inl l) = absurd (omega (arith, ((inside_iff s b).0 e).0, pow_pos s.height.value))

@@ -10,8 +10,8 @@ use Rattle.section.proofs.Multiples.{below_or_not, multiple_gap, multiple_sum, l
 use Rattle.section.proofs.Multiples.{aligned_lower}
 
 -- a section is inside one that is no lower, or before it, or after it
-pub nested_or-apart : (h i a b : ℕ) → h ≤ i → a % 2 ^ h ≡ 0 → b % 2 ^ i ≡ 0 → Placed a (2 ^ h) b (2 ^ i)
-nested_or-apart h i a b l ha hb =
+pub nested_or_apart : (h i a b : ℕ) → h ≤ i → a % 2 ^ h ≡ 0 → b % 2 ^ i ≡ 0 → Placed a (2 ^ h) b (2 ^ i)
+nested_or_apart h i a b l ha hb =
     let hb' = aligned_lower h i b l hb in
     let he = multiple_sum (2 ^ h) b (2 ^ i) hb' (length_multiple h i l) in
     elim (below_or_not a b) [
@@ -37,12 +37,12 @@ pub meets_inside : (h i j a b p x : ℕ) → h ≤ j → (i ≤ h) ⊎ (j ≤ i)
 meets_inside h i j a b p x hj height ha hb hp hx wa wb m₁ m₂ apart =
     let na = pow_pos h in
     elim height [
-      | inl ih ↦ elim (nested_or-apart i h x b ih hx hb) [
+      | inl ih ↦ elim (nested_or_apart i h x b ih hx hb) [
         | before u ↦ absurd (omega arith)
         | inside u v ↦ (u, v)
         | after u ↦ absurd (omega arith)
       ]
-      | inr ji ↦ elim (nested_or-apart j i p x ji hp hx) [
+      | inr ji ↦ elim (nested_or_apart j i p x ji hp hx) [
         | before u ↦ absurd (omega arith)
         | inside u v ↦ elim apart [ inl w ↦ absurd (omega arith) | inr w ↦ absurd (omega arith) ]
         | after u ↦ absurd (omega arith)

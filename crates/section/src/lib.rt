@@ -5,6 +5,8 @@
 // `is_on_disk` takes any first block and any number of blocks. Every other function asks for what a section of a disk
 // gives: a height up to the greatest, which `of_length` answers, and a first block of some disk, by `is_on_disk`.
 // `shares_block` takes any four numbers, and its answer holds of every two aligned sections that they belong to.
+#![tactic(auto)]
+
 mod limits;
 
 ghost use Rattle.std.specs.Prelude.{◌≡◌, ◌-◌};
@@ -15,13 +17,13 @@ ghost use Rattle.section.specs.Sections.{Spans, length_of, shares_block, is_insi
 pub use limits::limits_agree;
 
 // The height of a section: its length is 2 to the height.
-#[derive(Drop)]
+#[derive(Clone, Copy)]
 pub struct Height {
     pub value: u32,
 }
 
 // What a number of blocks is the length of.
-#[derive(Drop)]
+#[derive(Clone, Copy)]
 pub enum Measured {
     Height(Height),
     NoLength,
@@ -68,7 +70,7 @@ impl Height {
 }
 
 // The blocks from `first` on, as many as the height's length.
-#[derive(Drop)]
+#[derive(Clone, Copy)]
 pub struct Section {
     pub first: u32,
     pub height: Height,

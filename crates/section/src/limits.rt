@@ -29,12 +29,12 @@ impl Section {
 
 // The constants are those of the definitions.
 pub fn limits_agree()
-    ensures* block_size { do ⌜ (← (⟦Section::BLOCK_SIZE⟧).entry) ≡ block_size ⌝ }
-    ensures* greatest_disk { do ⌜ (← (⟦Section::GREATEST_DISK⟧).entry) ≡ greatest_disk ⌝ }
-    ensures* small_catalogue { do ⌜ (← (⟦Section::SMALL_CATALOGUE⟧).entry) ≡ small_catalogue ⌝ }
-    ensures* large_catalogue { do ⌜ (← (⟦Section::LARGE_CATALOGUE⟧).entry) ≡ large_catalogue ⌝ }
-    ensures* most_files { do ⌜ (← (⟦Section::MOST_FILES⟧).entry) ≡ most_files ⌝ }
-    ensures* greatest_height { do ⌜ (← (⟦Height::GREATEST⟧).entry) ≡ greatest_height ⌝ }
-    ensures* height_count { do ⌜ (← (⟦Height::COUNT⟧).entry) ≡ height_count ⌝ }
-    ensures* small_height_count { do ⌜ (← (⟦Height::SMALL_COUNT⟧).entry) ≡ small_height_count ⌝ }
+    ensures block_size { Section.BLOCK_SIZE ≡ block_size }
+    ensures greatest_disk { Section.GREATEST_DISK ≡ greatest_disk }
+    ensures small_catalogue { Section.SMALL_CATALOGUE ≡ small_catalogue }
+    ensures large_catalogue { Section.LARGE_CATALOGUE ≡ large_catalogue }
+    ensures most_files { Section.MOST_FILES ≡ most_files }
+    ensures greatest_height { Height.GREATEST ≡ greatest_height }
+    ensures height_count { Height.COUNT ≡ height_count }
+    ensures small_height_count { Height.SMALL_COUNT ≡ small_height_count }
 {}

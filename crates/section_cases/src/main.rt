@@ -1,4 +1,6 @@
 // Section arithmetic, executed by the promises of the crate `section` alone.
+#![tactic(auto)]
+
 ghost use Rattle.std.specs.Prelude.{◌≡◌, true, ◌<◌};
 ghost use Rattle.section.specs.Heights.{NoHigher};
 ghost use Rattle.section.specs.Sections.{buddy_of, is_on_disk};

@@ -1,5 +1,7 @@
 // Merging to the end: merges until no height has two free pieces, with the blocks that files hold copied at the step of
 // their merge and counted, or counted alone.
+#![tactic(auto)]
+
 ghost use Rattle.std.specs.Prelude.{length};
 ghost use Rattle.settling.specs.Settling.{CanSettle, Settles};
 
@@ -11,14 +13,14 @@ mod planning;
 pub use planning::plan;
 
 // A table whose merges are done, and the number of blocks that were copied for it.
-#[derive(Drop)]
+#[derive(Clone, Copy)]
 pub struct Settled {
     pub table: Table,
     pub copied: u32,
 }
 
 // The free pieces when the merges are done, and the number of blocks that would be copied for them.
-#[derive(Drop)]
+#[derive(Clone, Copy)]
 pub struct Planned {
     pub free: Free,
     pub copied: u32,

@@ -8,7 +8,7 @@ use lib.Dec.{eqb, ltb}
 use borrow.Author.Tests.{eq-eqb, le-ltb, lt-ltb, ne_eqb}
 use Rattle.catalogue.proofs.Tests.{and_intro, pairs-pairwise, pairwise-pairs}
 use Rattle.catalogue.specs.Reading.{pairwise}
-use Rattle.layout.proofs.Lists.{each_and, pairwise-imp}
+use Rattle.layout.proofs.Lists.{each_and, pairwise_imp}
 use Rattle.layout.specs.Lists.{Pairwise, next, none}
 use Rattle.section.proofs.Booleans.{and_true}
 use Rattle.section.proofs.Lengths.{length_unique}
@@ -54,18 +54,18 @@ pub order_rises : (l : List Section) → in_order l ≡ true → rising l ≡ tr
 unfolding in_turn
 order_rises l e =
     pairs-pairwise _
-    (pairwise-imp (λ s t q. (and_true (ltb s.first t.first) (not (eqb (length_of s) (length_of t))) q).0)
+    (pairwise_imp (λ s t q. (and_true (ltb s.first t.first) (not (eqb (length_of s) (length_of t))) q).0)
     (pairwise-pairs in_turn l e))
 
 pub order_distinct : (l : List Section) → in_order l ≡ true → distinct l ≡ true
 unfolding in_turn
 order_distinct l e =
     pairs-pairwise _
-    (pairwise-imp (λ s t q. (and_true (ltb s.first t.first) (not (eqb (length_of s) (length_of t))) q).1)
+    (pairwise_imp (λ s t q. (and_true (ltb s.first t.first) (not (eqb (length_of s) (length_of t))) q).1)
     (pairwise-pairs in_turn l e))
 
 pub order_both : (l : List Section) → rising l ≡ true → distinct l ≡ true → in_order l ≡ true
 unfolding in_turn
 order_both l p q =
     pairs-pairwise in_turn
-    (pairwise-imp (λ s t w. and_intro w.0 w.1) (pairwise_and (pairwise-pairs _ l p) (pairwise-pairs _ l q)))
+    (pairwise_imp (λ s t w. and_intro w.0 w.1) (pairwise_and (pairwise-pairs _ l p) (pairwise-pairs _ l q)))

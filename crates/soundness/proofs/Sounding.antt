@@ -107,9 +107,9 @@ module _ (t : Table) (sum free : ℕ) (x : Exact t) (y : Counted t sum free) whe
       (and_true (leb t.blocks greatest_disk) _ (and_true (leb 1 t.blocks) _ e).1).0
 
   -- and the free pieces are few
-  pub sums_free-few : sums_agree t.blocks sum free ≡ true → t.free.count ≤ piece_places
+  pub sums_free_few : sums_agree t.blocks sum free ≡ true → t.free.count ≤ piece_places
   unfolding layout_of
-  sums_free-few e =
+  sums_free_few e =
       omega (arith, x.free, free-few height_count (layout_of t) (omega arith) (sums_disk e) y.free_count)
 
   pub ids_unsound : ids_rise (files_of t) ≡ false → is_sound height_count (layout_of t) ≡ false

@@ -1,5 +1,7 @@
 // Whether a table that was read is sound: its sums, the order of its files and free pieces, and that no two pieces
 // share a block. No bytes.
+#![tactic(auto)]
+
 use piece_lists::Pieces;
 use section::Section;
 
@@ -13,7 +15,7 @@ pub use order::in_order;
 
 // What was noted of a table's pieces, in an array of first blocks and one of masks: whether ids rise and all pieces are
 // sections of the disk, and the place after the last.
-#[derive(Drop)]
+#[derive(Clone, Copy)]
 pub struct Notes {
     pub ok: bool,
     pub end: usize,

@@ -6,10 +6,10 @@ use Prim.Native.Nat.{◌+◌, ◌-◌, suc, zero, ℕ}
 use lib.Dec.{eqb, leb}
 use lib.ListN.{drop, take}
 use Rattle.piece_lists.specs.Few.{list_of}
-use Rattle.layout.proofs.Lists.{map-append, map-insert}
+use Rattle.layout.proofs.Lists.{map-append, map_insert}
 use Rattle.layout.specs.Adding.{with_file}
 use Rattle.layout.specs.Layout.{by_id}
-use Rattle.layout.specs.Lists.{Each, insertBy, more}
+use Rattle.layout.specs.Lists.{Each, insert_by, more}
 use Rattle.layout.specs.Removing.{moved_file}
 use Rattle.section.specs.Sections.{Addressable}
 use Rattle.section.specs.declared.Section.{Section}
@@ -73,11 +73,11 @@ module _ (b u : Section) (hu : Addressable u) where
 -- the files with one more
 pub files_put : (files r : List Entry) (m i : ℕ) (e : Entry) → i ≡ first_place (no_lower_id e.id) (take m files)
     → take (m + 1) r ≡ with_at i e (take m files)
-    → map file_of (take (m + 1) r) ≡ insertBy by_id (file_of e) (map file_of (take m files))
+    → map file_of (take (m + 1) r) ≡ insert_by by_id (file_of e) (map file_of (take m files))
 files_put files r m i e at p =
     ap (map file_of)
     (p ∙ (ap (λ k. with_at k e (take m files)) at ∙ insert_with_at (λ a b. leb a.id b.id) e (take m files)))
-    ∙ map-insert file_of (λ a b. leb a.id b.id) by_id (λ a b. refl) e (take m files)
+    ∙ map_insert file_of (λ a b. leb a.id b.id) by_id (λ a b. refl) e (take m files)
 
 -- a table with a file more
 pub layout-added : (t r : Table) (i : ℕ) (e : Entry)
@@ -89,5 +89,5 @@ layout-added t r i e at p n b =
     λ j. record { blocks = b j; files = files j; free = free_of r.free }
   where
     files : map file_of (take r.count r.files)
-        ≡ insertBy by_id (file_of e) (map file_of (take t.count t.files))
+        ≡ insert_by by_id (file_of e) (map file_of (take t.count t.files))
     files = ap (λ k. map file_of (take k r.files)) n ∙ files_put t.files r.files t.count i e at p

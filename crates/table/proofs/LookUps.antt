@@ -8,7 +8,7 @@ use lib.Dec.{leb, ltb}
 use lib.ListN.{get_or, length, take}
 use borrow.Author.Tests.{eq-eqb, le-ltb, leb-false, leb-true, lt-ltb, ne_eqb}
 use Rattle.layout.proofs.Finding.{find_nil, find_past}
-use Rattle.layout.proofs.Lists.{each-imp}
+use Rattle.layout.proofs.Lists.{each_imp}
 use Rattle.layout.proofs.LookingUp.{above_none_found, below_more, below_nil, below_none, look_up_finds}
 use Rattle.layout.proofs.LookingUp.{look_up_reads, read_below}
 use Rattle.layout.specs.Layout.{File, find_file, missing}
@@ -71,7 +71,7 @@ larger_missing i d (next {a = f} {l = l} p q) lt h = go (leb i f.id) refl lt h (
         → (first_place (not_below i) l < length l → i < (get_or l (first_place (not_below i) l) d).id
         → find_file i l ≡ missing)
         → find_file i (f ∷ l) ≡ missing
-    go true e lt h k = above_none_found i (more {a = f} h (each-imp (λ g x. omega arith) p))
+    go true e lt h k = above_none_found i (more {a = f} h (each_imp (λ g x. omega arith) p))
     go false e lt h k = find_past i f l (omega (arith, leb-false i f.id e)) ∙ k (omega arith) h
 
 -- if there is none, no file has the one sought

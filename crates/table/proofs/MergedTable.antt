@@ -5,7 +5,7 @@ use Prim.Native.Nat.{◌+◌, ℕ}
 use native.Mathlib.Omega.{arith}
 use lib.ListN.{length, take}
 use Rattle.layout.specs.Layout.{by_first}
-use Rattle.layout.specs.Lists.{Each, insertBy, sortBy}
+use Rattle.layout.specs.Lists.{Each, insert_by, sort_by}
 use Rattle.layout.specs.Removing.{merge, moved_file}
 use Rattle.section.specs.Sections.{buddy_of, moved_into, parent_of, Addressable}
 use Rattle.section.specs.declared.Section.{Section}
@@ -23,7 +23,7 @@ pub layout_merged : (t r : Table) (p : Pair) (b w : Section) → Addressable p.u
     → Each PiecesServed (take t.count t.files) → r.count ≡ t.count → r.blocks ≡ t.blocks
     → b ≡ buddy_of p.lower → w ≡ parent_of p.lower
     → r.files ≡ map_first (moved_entry b p.upper) t.count t.files
-    → free_of r.free ≡ insertBy by_first w (sortBy by_first (map (moved_into b p.upper) (free_of p.others)))
+    → free_of r.free ≡ insert_by by_first w (sort_by by_first (map (moved_into b p.upper) (free_of p.others)))
     → layout_of r ≡ (merge p.lower p.upper (free_of p.others) (layout_of t)).after
 unfolding layout_of files_of merge
 layout_merged t r p b w hu served n c eb ew fe fr = λ j. record { blocks = c j; files = files j; free = free j }
@@ -36,12 +36,12 @@ layout_merged t r p b w hu served n c eb ew fe fr = λ j. record { blocks = c j;
         ∙ ap (λ (x : Section). map (moved_file x p.upper) (map file_of (take t.count t.files))) eb)
 
     free : free_of r.free
-        ≡ insertBy by_first (parent_of p.lower)
-        (sortBy by_first (map (moved_into (buddy_of p.lower) p.upper) (free_of p.others)))
+        ≡ insert_by by_first (parent_of p.lower)
+        (sort_by by_first (map (moved_into (buddy_of p.lower) p.upper) (free_of p.others)))
     free =
         fr
         ∙ ap₂
-        (λ (x y : Section). insertBy by_first x (sortBy by_first (map (moved_into y p.upper) (free_of p.others))))
+        (λ (x y : Section). insert_by by_first x (sort_by by_first (map (moved_into y p.upper) (free_of p.others))))
         ew eb
 
 -- moving keeps the counts

@@ -7,7 +7,7 @@ use native.Mathlib.Omega.{arith}
 use lib.ListN.{take}
 use lib.Pow.{pow_pos}
 use Rattle.layout.proofs.Allocating.{height-lt}
-use Rattle.layout.proofs.Lists.{each-imp, each_left, each_right, each-unmap}
+use Rattle.layout.proofs.Lists.{each_imp, each_left, each_right, each_unmap}
 use Rattle.layout.proofs.MergeParts.{merge_parts}
 use Rattle.layout.proofs.MergeStep.{merge_keeps}
 use Rattle.layout.proofs.MovedPieces.{section_eta}
@@ -83,7 +83,7 @@ module _ (c : ℕ) (top : c ≤ greatest_disk) (w : Layout) (wh : Whole c w) (n 
   merge_movable = record {
     from = served c top (buddy_of p.lower) due_fits.buddy;
     to = served c top p.upper due_fits.upper;
-    pieces = each-imp (served c top) due_fits.others;
+    pieces = each_imp (served c top) due_fits.others;
   }
 
   -- and what counting the copies asks for
@@ -109,8 +109,8 @@ merge_ready c top t wh sized p ps f =
       upper = m.to;
       buddy = m.from;
       files =
-          each-imp (λ e q. each-imp (served c top) q)
-          (each-unmap file_of (take t.count t.files)
+          each_imp (λ e q. each_imp (served c top) q)
+          (each_unmap file_of (take t.count t.files)
           (each_file (files_of t) (each_left (file_pieces (files_of t)) (free_of t.free) wh.disk)));
       others = m.pieces;
       few = omega (arith, ps.less f, sized.free);

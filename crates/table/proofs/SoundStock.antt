@@ -3,7 +3,7 @@ use mathlib.Core.Path.{◌≡◌}
 use Prim.Native.Nat.{◌≤◌}
 use native.Mathlib.Omega.{arith}
 use lib.ListN.{length}
-use Rattle.layout.proofs.Lists.{each-imp, each_right}
+use Rattle.layout.proofs.Lists.{each_imp, each_right}
 use Rattle.layout.proofs.Soundness.{sound_sums}
 use Rattle.layout.specs.Layout.{OnDisk, file_pieces}
 use Rattle.layout.specs.Sound.{Sound}
@@ -20,7 +20,7 @@ module _ (t : Table) (g : SoundSums height_count (layout_of t)) (most : t.free.c
   pub sums_stocked : Stocked t.free
   unfolding layout_of
   sums_stocked = record {
-    disk = each-imp wider (each_right (file_pieces (files_of t)) (free_of t.free) g.disk);
+    disk = each_imp wider (each_right (file_pieces (files_of t)) (free_of t.free) g.disk);
     rising = g.rising;
     distinct = g.thin;
     most = most;

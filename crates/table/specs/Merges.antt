@@ -1,7 +1,7 @@
 -- What a release and a merge ask of a table and what they promise. Definitions only.
 use Rattle.std.specs.Prelude.{List, map, ◌≡◌, ◌+◌, ◌<◌, ℕ, length, take}
 use Rattle.layout.specs.Layout.{by_first}
-use Rattle.layout.specs.Lists.{Each, insertBy, sortBy}
+use Rattle.layout.specs.Lists.{Each, insert_by, sort_by}
 use Rattle.layout.specs.Removing.{merge, release}
 use Rattle.section.specs.Sections.{Addressable, buddy_of, moved_into, parent_of}
 use Rattle.section.specs.declared.Section.{Section}
@@ -34,8 +34,8 @@ pub record Ready (t : Table) (p : Pair) : Type 0 where
 -- the free pieces when the two of p are merged
 abbrev pub free_after : Pair → List Section
 free_after p =
-    insertBy by_first (parent_of p.lower)
-    (sortBy by_first (map (moved_into (buddy_of p.lower) p.upper) (free_of p.others)))
+    insert_by by_first (parent_of p.lower)
+    (sort_by by_first (map (moved_into (buddy_of p.lower) p.upper) (free_of p.others)))
 
 -- r is the table t when the two of p are merged
 pub record Merged (t : Table) (p : Pair) (r : Table) : Type 0 where

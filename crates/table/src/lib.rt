@@ -3,6 +3,8 @@
 //
 // A list is the first `count` items of an array, so each value stands for one list of the definitions: `Entry` for a
 // file with its pieces in page order, `Table` for a layout.
+#![tactic(auto)]
+
 use free_pieces::Free;
 use piece_lists::Pieces;
 use section::Section;
@@ -18,14 +20,14 @@ pub use merges::free_merged;
 pub use release::free_with;
 
 // A file: its id, and its pieces in page order.
-#[derive(Drop)]
+#[derive(Clone, Copy)]
 pub struct Entry {
     pub id: u32,
     pub pieces: Pieces,
 }
 
 // The disk's blocks, the files by rising id, and the free pieces.
-#[derive(Drop)]
+#[derive(Clone, Copy)]
 pub struct Table {
     pub blocks: u32,
     pub count: usize,
@@ -34,14 +36,14 @@ pub struct Table {
 }
 
 // Where the file of an id stands, by how many files stand before it; or that there is none.
-#[derive(Drop)]
+#[derive(Clone, Copy)]
 pub enum FileAt {
     Place(usize),
     Missing,
 }
 
 // What a look-up gives: the file or none, and the number of ids read.
-#[derive(Drop)]
+#[derive(Clone, Copy)]
 pub struct LookedUp {
     pub file: FileAt,
     pub read: usize,

@@ -1,4 +1,6 @@
 // Bytes, numbers and lines, written behind what stands in a buffer already.
+#![tactic(auto)]
+
 ghost use Rattle.manager.specs.Printing.{decimal};
 ghost use Rattle.texts.specs.Lines.{Room, Appends, line_of};
 

@@ -4,7 +4,7 @@ use native.Mathlib.Omega.{arith}
 use borrow.Author.Rules.{rules}
 use Rattle.manager.specs.Printing.{layout_text}
 use Rattle.table.specs.Tables.{layout_of}
-use Rattle.piece_lists.proofs.Arrays.{length-of_mapped}
+use Rattle.piece_lists.proofs.Arrays.{length_of_mapped}
 use Rattle.pieces.proofs.SoundPieces.{files-low, free-low, free-places}
 use Rattle.printing.proofs.SoundTables.{files-fit, table-room}
 use Rattle.printing.proofs.TextRoom.{text_size}
@@ -47,7 +47,7 @@ write-bytes-requires c κs =
 few-requires : tie.Need-few-requires
 few-requires c κs =
     let a = c.before.before.before.before.before.before.before.before.before.before.before.before.before.before.before.before in
-    free-places a.args.t a.requires.0 a.requires.1.0 (search (rules, length-of_mapped))
+    free-places a.args.t a.requires.0 a.requires.1.0 (search (rules, length_of_mapped))
 
 write-pairs-requires : tie.Need-write-pairs-requires
 unfolding layout_of

@@ -2,7 +2,7 @@
 use mathlib.Core.Path.{ap, ◌∙◌}
 use borrow.Author.Rules.{rules}
 use Rattle.section.proofs.Answers.{on_disk_iff, has_buddy_iff}
-use Rattle.section.proofs.Buddies.{buddy-of_lower}
+use Rattle.section.proofs.Buddies.{buddy_of_lower}
 use Rattle.section.specs.Sections.{is_on_disk, has_buddy}
 use Rattle.section.specs.declared.Height.{Height}
 use Rattle.section_cases.proofs.lower_buddy.Statement.{statement}
@@ -23,7 +23,7 @@ returns c =
     let multiple = rw same at up.0 in
     let end = rw same at up.1 in
     let first = a.lower.first in
-    let fits = buddy-of_lower h first a.upper.first a.blocks low.0 multiple pre.1.1.1.1 end in
+    let fits = buddy_of_lower h first a.upper.first a.blocks low.0 multiple pre.1.1.1.1 end in
     let there = (has_buddy_iff a.blocks a.lower low.0).1 fits in
     (c.buddy.ensures, ap (is_on_disk a.blocks) c.buddy.ensures ∙ there)
 

@@ -9,7 +9,7 @@ use lib.ListN.{length}
 use borrow.Author.Rules.{rules}
 use borrow.Author.Tests.{not-false, not-true}
 use Rattle.section.specs.Limits.{most_files}
-use Rattle.piece_lists.proofs.Arrays.{length-of_mapped}
+use Rattle.piece_lists.proofs.Arrays.{length_of_mapped}
 use Rattle.table.proofs.FilesMoving.{FilesMoving, moving_can, moving-end, moving-kept, moving_long}
 use Rattle.table.specs.declared.Table.{Table}
 use Rattle.table.proofs.FilesMoving.{moving_more, moving-places, moving_start}
@@ -37,7 +37,7 @@ decreases-merges disk₀ t₀ copied₀ free₀ disk t copied free = free.count
 merges-holds : tie.Need-merges-init invariant-files decreases-files invariant-merges decreases-merges
 merges-holds c =
     let a = c.before.before in
-    let long : length a.args.table.files ≡ most_files = search (rules, length-of_mapped) in
+    let long : length a.args.table.files ≡ most_files = search (rules, length_of_mapped) in
     (settling_start a.args.table a.args.disk.now a.requires, long)
 
 lowest-pair-requires : tie.Need-lowest-pair-requires invariant-files decreases-files invariant-merges decreases-merges

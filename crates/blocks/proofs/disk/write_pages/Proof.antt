@@ -15,7 +15,7 @@ use Rattle.blocks.proofs.DiskWriting.{left_all, left_end, left_more, left_over}
 use Rattle.layout.specs.Layout.{block_count}
 use Rattle.section.specs.Heights.{NoHigher}
 use Rattle.section.specs.Limits.{block_size}
-use Rattle.piece_lists.proofs.Arrays.{ahead, behind, length-of_mapped}
+use Rattle.piece_lists.proofs.Arrays.{ahead, behind, length_of_mapped}
 use Rattle.piece_lists.specs.Few.{list_of, piece_places}
 use Rattle.pieces.proofs.PieceCounts.{count_here}
 use Rattle.blocks.proofs.disk.write_pages.Statement.{statement}
@@ -35,7 +35,7 @@ loop-holds : tie.Need-loop-init invariant-loop decreases-loop
 unfolding list_of
 loop-holds c =
     let a = c.before.before.before.before in
-    let e : length a.args.e.pieces.items ≡ piece_places = search (rules, length-of_mapped) in
+    let e : length a.args.e.pieces.items ≡ piece_places = search (rules, length_of_mapped) in
     (e, a.requires.entry.count, omega arith, refl, omega (arith, a.requires.pages), refl)
 
 mul-piece : tie.Need-overflow-mul-piece invariant-loop decreases-loop

@@ -3,7 +3,7 @@
 use mathlib.Core.Path.{◌≡◌}
 use lib.ListN.{length}
 use borrow.Author.Rules.{rules}
-use Rattle.piece_lists.proofs.Arrays.{length-of_mapped}
+use Rattle.piece_lists.proofs.Arrays.{length_of_mapped}
 use Rattle.piece_lists.specs.Few.{piece_places}
 use Rattle.blocks.proofs.DiskLetter.{letter_is, letter_on_disk}
 use Rattle.blocks.proofs.reading.first_letter.Statement.{statement}
@@ -28,14 +28,14 @@ shared-slice-read-byte : tie.Need-shared-slice-read-byte
 shared-slice-read-byte c =
     let f = c.before.first in
     let a = c.before.before.before.before.before.before in
-    let n : length a.args.e.pieces.items ≡ piece_places = search (rules, length-of_mapped) in
+    let n : length a.args.e.pieces.items ≡ piece_places = search (rules, length_of_mapped) in
     letter_on_disk a.args.disk.now a.args.e a.requires.0 a.requires.1 n f.result f.ensures
 
 returns : tie.Need-returns
 returns c =
     let f = c.before.first in
     let a = c.before.before.before.before.before.before in
-    let n : length a.args.e.pieces.items ≡ piece_places = search (rules, length-of_mapped) in
+    let n : length a.args.e.pieces.items ≡ piece_places = search (rules, length_of_mapped) in
     letter_is a.args.disk.now a.args.e a.requires.0 a.requires.1 n f.result f.ensures
 
 pub first-letter-spec : {M : Type 1} → statement M

@@ -14,7 +14,7 @@ use Rattle.blocks.proofs.RunSteps.{run_is}
 use Rattle.layout.specs.Layout.{blocks_of}
 use Rattle.section.specs.Heights.{NoHigher}
 use Rattle.section.specs.Limits.{block_size, greatest_disk}
-use Rattle.piece_lists.proofs.Arrays.{length-of_mapped}
+use Rattle.piece_lists.proofs.Arrays.{length_of_mapped}
 use Rattle.piece_lists.specs.Few.{list_of, piece_places}
 use Rattle.blocks.proofs.reading.run_of_page.Statement.{statement}
 use Rattle.blocks.proofs.reading.run_of_page.Tie as tie
@@ -32,7 +32,7 @@ decreases-loop page count items rest₀ j₀ rest j = count - j
 loop-holds : tie.Need-loop-init invariant-loop decreases-loop
 loop-holds c =
     let a = c.before.before in
-    let e : length a.args.e.pieces.items ≡ piece_places = search (rules, length-of_mapped) in
+    let e : length a.args.e.pieces.items ≡ piece_places = search (rules, length_of_mapped) in
     (e, a.requires.count, omega arith, λ k. refl)
 
 mul-piece : tie.Need-overflow-mul-piece invariant-loop decreases-loop

@@ -4,7 +4,7 @@ use mathlib.Core.Path.{◌∙◌, ap}
 use native.Mathlib.Omega.{arith}
 use borrow.Author.Rules.{rules}
 use Rattle.quality.specs.Letters.{rank_of}
-use Rattle.calls.proofs.ContentLetter.{letter_in_content, letter-of_content}
+use Rattle.calls.proofs.ContentLetter.{letter_in_content, letter_of_content}
 use Rattle.calls.proofs.Refusing.{made_as}
 use Rattle.calls.proofs.ReplaceJudged.{can_exchange, compared_fits, compared_low, compared_some}
 use Rattle.calls.proofs.ReplaceJudged.{refuse-not_above, refuse-space, refuse_unknown}
@@ -26,7 +26,7 @@ returns : tie.Need-returns
 returns c =
     let a = c.before.before.before.before.before.before in
     let k = c.before.before.rank in
-    let new = k.ensures ∙ ap rank_of (letter-of_content a.args.content.now a.requires.paged) in
+    let new = k.ensures ∙ ap rank_of (letter_of_content a.args.content.now a.requires.paged) in
     made_as c.kept.ensures (refuse_unknown _ _ _ _ _ a.requires k.result new c.before.if1.true)
 
 mul-e : tie.Need-overflow-mul-e
@@ -54,7 +54,7 @@ returns-2 c =
     let o = c.before.before in
     let k = o.before.before.before.before.before in
     let a = k.before.before.before.before in
-    let new = k.rank.ensures ∙ ap rank_of (letter-of_content a.args.content.now a.requires.paged) in
+    let new = k.rank.ensures ∙ ap rank_of (letter_of_content a.args.content.now a.requires.paged) in
     let old = o.rank2.ensures ∙ ap rank_of o.before.first-letter.ensures in
     made_as c.kept2.ensures
     (refuse-not_above _ _ _ _ _ a.requires k.rank.result new o.before.before.before.before.if1.false
@@ -88,7 +88,7 @@ returns-3 c =
     let o = f.before.before in
     let k = o.before.before.before.before.before in
     let a = k.before.before.before.before in
-    let new = k.rank.ensures ∙ ap rank_of (letter-of_content a.args.content.now a.requires.paged) in
+    let new = k.rank.ensures ∙ ap rank_of (letter_of_content a.args.content.now a.requires.paged) in
     let old = o.rank2.ensures ∙ ap rank_of o.before.first-letter.ensures in
     made_as c.kept3.ensures
     (refuse-space _ _ _ _ _ a.requires k.rank.result new o.before.before.before.before.if1.false
@@ -105,7 +105,7 @@ exchange-requires c κs =
     let o = f.before.before in
     let k = o.before.before.before.before.before in
     let a = k.before.before.before.before in
-    let new = k.rank.ensures ∙ ap rank_of (letter-of_content a.args.content.now a.requires.paged) in
+    let new = k.rank.ensures ∙ ap rank_of (letter_of_content a.args.content.now a.requires.paged) in
     let old = o.rank2.ensures ∙ ap rank_of o.before.first-letter.ensures in
     can_exchange _ _ _ _ _ a.requires k.rank.result new o.before.before.before.before.if1.false
     o.rank2.result old (omega (arith, f.before.if2.false)) f.Free-in.result n.blocks-of.result

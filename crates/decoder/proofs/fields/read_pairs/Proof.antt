@@ -15,7 +15,7 @@ use Rattle.section.specs.Sections.{length_of}
 use Rattle.layout.specs.Layout.{block_count}
 use Rattle.piece_lists.specs.Few.{piece_places}
 use Rattle.decoder.proofs.Runs.{PairsLeft, Left, left_start, left_more, left_bad, left_end, no_pairs-at}
-use Rattle.decoder.proofs.Runs.{some_pairs-at, sum-pushed}
+use Rattle.decoder.proofs.Runs.{some_pairs_at, sum_pushed}
 use Rattle.decoder.proofs.fields.read_pairs.Statement.{statement}
 use Rattle.decoder.proofs.fields.read_pairs.Tie as tie
 
@@ -100,7 +100,7 @@ loop-again c =
           ∙ (ap (λ n. block_count (take b.loop.i (seen b.loop.items)) + n) p.ensures.equal
           ∙ sym (ap (λ z. block_count (take (b.loop.i + 1) z))
           (seen-set b.loop.items b.loop.i p.result.piece)
-          ∙ sum-pushed length_of (seen b.loop.items) b.loop.i (section_in p.result.piece)
+          ∙ sum_pushed length_of (seen b.loop.items) b.loop.i (section_in p.result.piece)
           (omega (arith, seen-length b.loop.items)))),
       left_more a.width a.s.now a.count b.loop.end b.loop.i b.loop.items
           c.before.before.before.before.before.loop-test.true _
@@ -115,7 +115,7 @@ returns-2 c =
     let a = b.before.before.args in
     let v = b.loop.invariant in
     let e : b.loop.i ≡ a.count = omega arith in
-    some_pairs-at a.width a.s.now a.at a.count _ b.loop.end b.loop.items
+    some_pairs_at a.width a.s.now a.at a.count _ b.loop.end b.loop.items
     (sym v.6
     ∙ (ap (λ i. Left a.width a.s.now a.count b.loop.end i b.loop.items) e
     ∙ left_end a.width a.s.now a.count b.loop.end b.loop.items))

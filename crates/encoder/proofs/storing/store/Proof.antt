@@ -7,7 +7,7 @@ use native.Mathlib.Omega.{arith}
 use lib.ListN.{length, take}
 use borrow.Author.Rules.{rules}
 use Rattle.pieces.proofs.SoundPieces.{files-low, free-low, free-places}
-use Rattle.piece_lists.proofs.Arrays.{length-of_mapped}
+use Rattle.piece_lists.proofs.Arrays.{length_of_mapped}
 use Rattle.piece_lists.proofs.EachItem.{each_taken}
 use Rattle.table.specs.Tables.{file_of, files_of, layout_of}
 use Rattle.table.specs.declared.Entry.{Entry}
@@ -46,7 +46,7 @@ unfolding layout_of
 write-header-requires c κs =
     let s = c.before.before in
     let t = s.args.t3 in
-    let n : length t.files ≡ most_files = search (rules, length-of_mapped) in
+    let n : length t.files ≡ most_files = search (rules, length_of_mapped) in
     let k = files_count t s.requires.1.0 n in
     header-room s.args.version s.requires.0.0 (layout_of t) t.count k s.requires.1.1 s.args.cat.now
     s.requires.0.1
@@ -57,7 +57,7 @@ loop-holds c =
     let s = c.before.before.before.before.before.args in
     let width = s.version.width in (
       refl,
-      search (rules, length-of_mapped),
+      search (rules, length_of_mapped),
       omega arith,
       list_none (λ (e : Entry). entry_bytes width (file_of e)) (λ l. entries_bytes width (map file_of l))
           (entries_bytes_nil width) (λ a l. entries_bytes-cons width (file_of a) (map file_of l))
@@ -115,7 +115,7 @@ loop-again c =
 few-requires : tie.Need-few-requires invariant-loop decreases-loop
 few-requires c κs =
     let s = c.before.before.before.before.before.before.before.before.before in
-    free-places s.args.t3 s.requires.1.0 (wide s.requires.0.0 s.requires.1.1) (search (rules, length-of_mapped))
+    free-places s.args.t3 s.requires.1.0 (wide s.requires.0.0 s.requires.1.1) (search (rules, length_of_mapped))
 
 write-pairs-requires : tie.Need-write-pairs-requires invariant-loop decreases-loop
 unfolding files_of layout_of

@@ -2,7 +2,7 @@
 use native.Mathlib.Omega.{arith}
 use borrow.Author.Rules.{rules}
 use Rattle.layout.specs.Layout.{by_first, file_blocks}
-use Rattle.layout.specs.Lists.{sortBy}
+use Rattle.layout.specs.Lists.{sort_by}
 use Rattle.table.specs.Tables.{file_of, pieces_in}
 use Rattle.catalogue.specs.Encoding.{big_endian, pairs_bytes}
 use Rattle.encoder.proofs.StoreEntry.{entry_parts, entry-room, entry-room-rest, sorted-low}
@@ -25,7 +25,7 @@ write-field-requires-2 c κs =
     let w = c.before.before.before.before.write-field in
     rw c.blocks-of.ensures.equal
     (room_left w.new.0 (big_endian s.args.width (file_blocks (file_of e)))
-    (pairs_bytes s.args.width (sortBy by_first (pieces_in e))) w.result
+    (pairs_bytes s.args.width (sort_by by_first (pieces_in e))) w.result
     (entry-room-rest s.args.width e s.requires.1 w.ensures))
 
 sorted-requires : tie.Need-sorted-requires
@@ -44,7 +44,7 @@ write-pairs-requires c κs =
         sorted-low s.args.width e n.result n.ensures.equal q.result q.ensures s.requires.0,
         rw q.ensures.list
             (room_right (big_endian s.args.width (file_blocks (file_of e)))
-            (pairs_bytes s.args.width (sortBy by_first (pieces_in e))) v
+            (pairs_bytes s.args.width (sort_by by_first (pieces_in e))) v
             (entry-room-rest s.args.width e s.requires.1 w)),
       ),
     )

@@ -8,7 +8,7 @@ use Prim.Native.Nat.{◌-◌, ◌≤◌}
 use native.Mathlib.Omega.{arith}
 use lib.ListN.{length, take}
 use borrow.Author.Rules.{rules}
-use Rattle.piece_lists.proofs.Arrays.{length-of_mapped}
+use Rattle.piece_lists.proofs.Arrays.{length_of_mapped}
 use Rattle.piece_lists.specs.Few.{list_of, piece_places}
 use Rattle.piece_lists.specs.Few.{list_of}
 use Rattle.pieces.specs.Pieces.{Low}
@@ -49,7 +49,7 @@ write-pair-requires c κs =
     let l = c.before.before.before.before.loop in
     let p = s.args.t4 in
     let w = s.args.width in
-    let n : length p.items ≡ piece_places = search (rules, length-of_mapped) in
+    let n : length p.items ≡ piece_places = search (rules, length_of_mapped) in
     let n' = seen-length p.items in
     let x = seen_get p.items l.i ∙ sym c.before.section.ensures in (
       each_read {P = Low} p.items p.count l.i c.before.section.result (omega arith) s.requires.1.0
@@ -72,7 +72,7 @@ loop-again c =
     let l = c.before.before.before.before.before.before.before.loop in
     let p = s.args.t4 in
     let w = s.args.width in
-    let n : length p.items ≡ piece_places = search (rules, length-of_mapped) in
+    let n : length p.items ≡ piece_places = search (rules, length_of_mapped) in
     let n' = seen-length p.items in
     let x = seen_get p.items l.i ∙ sym c.before.before.before.before.section.ensures in
     let y = c.before.before.write-pair in (

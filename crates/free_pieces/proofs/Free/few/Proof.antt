@@ -9,7 +9,7 @@ use Rattle.piece_lists.specs.Few.{list_of, piece_places}
 use Rattle.free_pieces.specs.Free.{free_of, free_places}
 use Rattle.piece.specs.Packed.{seen}
 use Rattle.piece.proofs.Seen.{seen-length, seen_same}
-use Rattle.piece_lists.proofs.Arrays.{copied_more, length-of_mapped}
+use Rattle.piece_lists.proofs.Arrays.{copied_more, length_of_mapped}
 use Rattle.free_pieces.proofs.Free.few.Statement.{statement}
 use Rattle.free_pieces.proofs.Free.few.Tie as tie
 
@@ -22,7 +22,7 @@ abbrev decreases-loop : tie.decreases-loop
 decreases-loop self count items₀ j₀ items j = count - j
 
 loop-holds : tie.Need-loop-init invariant-loop decreases-loop
-loop-holds c = (refl, c.requires, search (rules, length-of_mapped), refl, omega arith, refl)
+loop-holds c = (refl, c.requires, search (rules, length_of_mapped), refl, omega arith, refl)
 
 mul-piece : tie.Need-overflow-mul-piece invariant-loop decreases-loop
 mul-piece c = search rules

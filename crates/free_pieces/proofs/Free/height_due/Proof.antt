@@ -13,7 +13,7 @@ use Rattle.section.specs.Limits.{height_count}
 use Rattle.section.specs.Sections.{section}
 use Rattle.piece.specs.Packed.{seen}
 use Rattle.piece.proofs.Seen.{seen_get, seen-length}
-use Rattle.piece_lists.proofs.Arrays.{length-of_mapped}
+use Rattle.piece_lists.proofs.Arrays.{length_of_mapped}
 use Rattle.free_pieces.proofs.Draws.{pair_on}
 use Rattle.free_pieces.proofs.Fewer.{count_other, count_same, few_pair}
 use Rattle.free_pieces.specs.Free.{free_of, lowest_pair, pair_of, free_places}
@@ -38,7 +38,7 @@ decreases-heights self m h₀ h = height_count - h
 
 heights-holds : tie.Need-heights-init invariant-pieces decreases-pieces invariant-heights decreases-heights
 heights-holds c =
-    let e : length c.args.t1.items ≡ free_places = search (rules, length-of_mapped) in
+    let e : length c.args.t1.items ≡ free_places = search (rules, length_of_mapped) in
     (e, refl, omega arith, refl)
 
 pieces-holds : tie.Need-pieces-init invariant-pieces decreases-pieces invariant-heights decreases-heights

@@ -8,7 +8,7 @@ use lib.ListN.{length}
 use borrow.Author.Rules.{rules}
 use Rattle.section.specs.Limits.{height_count}
 use Rattle.layout.specs.Layout.{has_height}
-use Rattle.piece_lists.proofs.Arrays.{length-of_mapped, place_all}
+use Rattle.piece_lists.proofs.Arrays.{length_of_mapped, place_all}
 use Rattle.free_pieces.proofs.BuddyPlaces.{buddies_places, no_buddies}
 use Rattle.free_pieces.proofs.Draws.{pair_end, pair_here}
 use Rattle.free_pieces.proofs.PairPlaces.{PairPlaces, free-length, low_there, lowest-places, places_same}
@@ -31,7 +31,7 @@ unfolding pair_of
 returns c =
     let a = c.before.before.args.self in
     let h = c.before.height-due.result in
-    let e : length a.items ≡ free_places = search (rules, length-of_mapped) in
+    let e : length a.items ≡ free_places = search (rules, length_of_mapped) in
     record {
       meaning =
           pair_end (height_count - h) h (free_of a) (omega (arith, c.if1.true)) ∙ c.before.height-due.ensures.here;
@@ -53,7 +53,7 @@ place-from-requires-2 c κs =
     let a = c.before.before.before.before.before.before.args.self in
     let q = c.before.before.before.before.before.before.requires in
     let d = c.before.before.before.before.before.height-due in
-    let e : length a.items ≡ free_places = search (rules, length-of_mapped) in
+    let e : length a.items ≡ free_places = search (rules, length_of_mapped) in
     let n = free-length a e q.0 in
     let two = d.ensures.two (omega (arith, c.before.before.before.before.if1.false)) in
     let none = no_buddies d.result (free_of a)
@@ -83,7 +83,7 @@ module _ (c : lts.Joined2 (
 
   exact : length (free_of self) ≡ self.count
   exact =
-      let e : length self.items ≡ free_places = search (rules, length-of_mapped) in
+      let e : length self.items ≡ free_places = search (rules, length_of_mapped) in
       free-length self e c.before.before.before.before.before.requires.0
 
   places : PairPlaces height (free_of self) c.if2.low c.if2.next

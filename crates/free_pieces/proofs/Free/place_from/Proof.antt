@@ -10,7 +10,7 @@ use Rattle.layout.specs.Layout.{has_height}
 use Rattle.section.specs.Sections.{section}
 use Rattle.piece.specs.Packed.{seen}
 use Rattle.piece.proofs.Seen.{seen_get, seen-length}
-use Rattle.piece_lists.proofs.Arrays.{length-of_mapped, place_end, place_here, place_on}
+use Rattle.piece_lists.proofs.Arrays.{length_of_mapped, place_end, place_here, place_on}
 use Rattle.piece_lists.specs.Places.{first_place}
 use Rattle.free_pieces.specs.Free.{free_of, free_places}
 use Rattle.free_pieces.proofs.Free.place_from.Statement.{statement}
@@ -27,7 +27,7 @@ decreases-loop h from self m place₀ place = m - place
 
 loop-holds : tie.Need-loop-init invariant-loop decreases-loop
 loop-holds c =
-    let e : length c.args.t1.items ≡ free_places = search (rules, length-of_mapped) in
+    let e : length c.args.t1.items ≡ free_places = search (rules, length_of_mapped) in
     (e, refl, c.requires.0, c.requires.1, refl)
 
 mul-piece : tie.Need-overflow-mul-piece invariant-loop decreases-loop

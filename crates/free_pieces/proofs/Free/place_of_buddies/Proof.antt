@@ -12,7 +12,7 @@ use Rattle.section.specs.declared.Section.{Section}
 use Rattle.layout.specs.Removing.{has_free_buddy}
 use Rattle.piece.specs.Packed.{seen}
 use Rattle.piece.proofs.Seen.{seen-length}
-use Rattle.piece_lists.proofs.Arrays.{length-of_mapped, place_end, place_here, place_on}
+use Rattle.piece_lists.proofs.Arrays.{length_of_mapped, place_end, place_here, place_on}
 use Rattle.piece_lists.specs.Places.{first_place}
 use Rattle.free_pieces.proofs.BuddyPlaces.{buddy-next, buddy-none}
 use Rattle.free_pieces.specs.Free.{free_of, free_places}
@@ -30,7 +30,7 @@ decreases-loop h self m place₀ place = m - place
 
 loop-holds : tie.Need-loop-init invariant-loop decreases-loop
 loop-holds c =
-    let e : length c.args.t1.items ≡ free_places = search (rules, length-of_mapped) in
+    let e : length c.args.t1.items ≡ free_places = search (rules, length_of_mapped) in
     (e, refl, c.requires.0, omega arith, omega arith)
 
 add-loop : tie.Need-overflow-add-loop invariant-loop decreases-loop

@@ -6,7 +6,7 @@ use lib.ListN.{length}
 use borrow.Author.Rules.{rules}
 use Rattle.layout.specs.Adding.{taken}
 use Rattle.layout.specs.Layout.{by_first}
-use Rattle.layout.specs.Lists.{insertBy}
+use Rattle.layout.specs.Lists.{insert_by}
 use Rattle.section.specs.Sections.{section}
 use Rattle.section.specs.declared.Section.{Section}
 use Rattle.piece.specs.Packed.{section_in}
@@ -60,7 +60,7 @@ returns c =
     record {
       meaning =
           ap₂ taken low
-          (w.ensures.list ∙ ap (λ z. insertBy by_first z (free_of a.args.d.rest)) up)
+          (w.ensures.list ∙ ap (λ z. insert_by by_first z (free_of a.args.d.rest)) up)
           ∙ halved_is a.args.h a.args.d a.requires.there;
       most = omega (arith, w.ensures.count, a.requires.most);
       exact = ap length w.ensures.list ∙ (w.ensures.exact ∙ sym w.ensures.count);

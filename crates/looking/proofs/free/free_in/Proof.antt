@@ -11,7 +11,7 @@ use borrow.Author.Rules.{rules}
 use Rattle.layout.specs.Layout.{block_count}
 use Rattle.section.specs.Limits.{greatest_disk}
 use Rattle.section.specs.Sections.{length_of}
-use Rattle.piece_lists.proofs.Arrays.{length-of_mapped}
+use Rattle.piece_lists.proofs.Arrays.{length_of_mapped}
 use Rattle.free_pieces.specs.Free.{free_of, free_places}
 use Rattle.pieces.proofs.PieceCounts.{count_end, count_here}
 use Rattle.pieces.proofs.SoundPieces.{free-low}
@@ -33,7 +33,7 @@ loop-holds : tie.Need-loop-init invariant-loop decreases-loop
 loop-holds c =
     let a = c.before.before in
     let t = a.args.t in
-    let e : length t.free.items ≡ free_places = search (rules, length-of_mapped) in
+    let e : length t.free.items ≡ free_places = search (rules, length_of_mapped) in
     (e, a.requires.sized.free, omega arith, omega arith, omega (arith, free-blocks t a.requires, free_most t a.requires))
 
 mul-piece : tie.Need-overflow-mul-piece invariant-loop decreases-loop

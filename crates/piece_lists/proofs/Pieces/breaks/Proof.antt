@@ -11,7 +11,7 @@ use Rattle.layout.specs.Layout.{break_between, breaks_of}
 use Rattle.piece.proofs.Seen.{seen_get, seen-length}
 use Rattle.piece.specs.Packed.{no_piece, section_in, seen}
 use Rattle.piece_lists.specs.Few.{list_of, piece_places}
-use Rattle.piece_lists.proofs.Arrays.{length-of_mapped}
+use Rattle.piece_lists.proofs.Arrays.{length_of_mapped}
 use Rattle.piece_lists.proofs.BreakSteps.{breaks-end, breaks_here}
 use Rattle.piece_lists.proofs.SeenPlaces.{each_read}
 use Rattle.piece_lists.proofs.Pieces.breaks.Statement.{statement}
@@ -29,7 +29,7 @@ decreases-loop count items breaks₀ j₀ breaks j = count - j
 loop-holds : tie.Need-loop-init invariant-loop decreases-loop
 loop-holds c =
     let a = c.before in
-    let e : length a.args.self.items ≡ piece_places = search (rules, length-of_mapped) in
+    let e : length a.args.self.items ≡ piece_places = search (rules, length_of_mapped) in
     (e, a.requires.0, omega arith, omega arith, omega arith)
 
 sub-before : tie.Need-overflow-sub-before invariant-loop decreases-loop

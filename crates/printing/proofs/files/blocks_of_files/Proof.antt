@@ -10,7 +10,7 @@ use Rattle.piece_lists.specs.Few.{piece_places}
 use Rattle.section.specs.Limits.{most_files, greatest_disk}
 use Rattle.layout.specs.Layout.{file_blocks}
 use Rattle.layout.specs.Lists.{sum_of}
-use Rattle.piece_lists.proofs.Arrays.{ahead, behind, length-of_mapped}
+use Rattle.piece_lists.proofs.Arrays.{ahead, behind, length_of_mapped}
 use Rattle.piece_lists.proofs.EachItem.{each_taken}
 use Rattle.table.specs.Files.{no_entry}
 use Rattle.table.specs.Tables.{file_of, files_of}
@@ -28,7 +28,7 @@ decreases-loop m files sum₀ i₀ sum i = m - i
 
 loop-holds : tie.Need-loop-init invariant-loop decreases-loop
 loop-holds c =
-    let e : length c.before.args.t.files ≡ most_files = search (rules, length-of_mapped) in
+    let e : length c.before.args.t.files ≡ most_files = search (rules, length_of_mapped) in
     (e, omega arith, omega arith, omega arith, omega arith)
 
 mul-blocks-of : tie.Need-overflow-mul-blocks-of invariant-loop decreases-loop

@@ -1,7 +1,7 @@
 -- `write_file` appends the line of id and n, and behind it the pairs by first block. Assumes nothing.
 use native.Mathlib.Omega.{arith}
 use borrow.Author.Rules.{rules}
-use Rattle.layout.proofs.Lists.{each-sort}
+use Rattle.layout.proofs.Lists.{each_sort}
 use Rattle.layout.specs.Layout.{by_first}
 use Rattle.piece_lists.specs.Few.{list_of}
 use Rattle.table.specs.Tables.{file_of}
@@ -37,7 +37,7 @@ write-pairs-requires c κs =
       omega (arith, s.ensures.count, s.ensures.few),
       (
         rw s.ensures.list
-            (each-sort by_first
+            (each_sort by_first
             c.before.before.before.before.before.before.before.before.before.before.requires.0.low),
         file-pairs-room (file_of e) n.result (list_of s.result) n.ensures.equal s.ensures.list
             c.before.before.before.before.before.before.before.before.before.before.requires.1

@@ -8,7 +8,7 @@ use borrow.Author.Rules.{rules}
 use lib.ListN.{drop, get_or, length, take}
 use Rattle.section.specs.Limits.{most_files}
 use Rattle.manager.specs.Printing.{all_file_lines, file_lines}
-use Rattle.piece_lists.proofs.Arrays.{length-of_mapped}
+use Rattle.piece_lists.proofs.Arrays.{length_of_mapped}
 use Rattle.piece_lists.proofs.EachItem.{each_taken}
 use Rattle.table.specs.Files.{no_entry}
 use Rattle.table.specs.Tables.{file_of, files_of}
@@ -30,7 +30,7 @@ decreases-loop out₀ at m files next₀ i₀ out next i = m - i
 loop-holds : tie.Need-loop-init invariant-loop decreases-loop
 loop-holds c =
     let a = c.before.before.args in
-    let e : length a.t.files ≡ most_files = search (rules, length-of_mapped) in (
+    let e : length a.t.files ≡ most_files = search (rules, length_of_mapped) in (
       e,
       omega arith,
       omega arith,

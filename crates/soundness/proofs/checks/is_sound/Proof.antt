@@ -13,7 +13,7 @@ use Rattle.catalogue.specs.Reading.{every, sound_piece}
 use Rattle.soundness.specs.Checking.{ids_rise}
 use Rattle.soundness.specs.Order.{in_order}
 use Rattle.soundness.proofs.NotedPieces.{disk_ends, noted-none}
-use Rattle.soundness.proofs.Sounding.{disk_unsound, sums_free-few, free_unsound, ids_unsound, not-not}
+use Rattle.soundness.proofs.Sounding.{disk_unsound, sums_free_few, free_unsound, ids_unsound, not-not}
 use Rattle.soundness.proofs.Sounding.{shared_left, sums_disk, sums_unsound}
 use Rattle.soundness.proofs.checks.is_sound.Statement.{statement}
 use Rattle.soundness.proofs.checks.is_sound.Tie as tie
@@ -30,7 +30,7 @@ few-requires : tie.Need-few-requires
 few-requires c κs =
     let s = c.before.before in
     let p = s.before.requires in
-    sums_free-few _ _ _ p.0 p.1 (sym s.sums-agree.ensures ∙ not-false _ c.before.if1.false)
+    sums_free_few _ _ _ p.0 p.1 (sym s.sums-agree.ensures ∙ not-false _ c.before.if1.false)
 
 in-order-requires : tie.Need-in-order-requires
 in-order-requires c κs = search rules

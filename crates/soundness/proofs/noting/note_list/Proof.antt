@@ -16,7 +16,7 @@ use Rattle.section.specs.declared.Section.{Section}
 use Rattle.piece.specs.Packed.{seen}
 use Rattle.piece.proofs.Seen.{seen_get, seen-length}
 use Rattle.piece_lists.specs.Few.{list_of, piece_places}
-use Rattle.piece_lists.proofs.Arrays.{length-of_mapped}
+use Rattle.piece_lists.proofs.Arrays.{length_of_mapped}
 use Rattle.catalogue.specs.Reading.{sound_piece}
 use Rattle.soundness.specs.Sharing.{Noted}
 use Rattle.soundness.proofs.NotedPieces.{noted-next}
@@ -39,7 +39,7 @@ decreases-loop firsts₀ masks₀ at blocks list count i₀ firsts masks i = cou
 loop-holds : tie.Need-loop-init invariant-loop decreases-loop
 loop-holds c =
     let p = c.requires in
-    let e : length c.args.t4.items ≡ piece_places = search (rules, length-of_mapped) in (
+    let e : length c.args.t4.items ≡ piece_places = search (rules, length_of_mapped) in (
       refl,
       p.0,
       p.1,

@@ -12,7 +12,7 @@ use borrow.Author.Rules.{rules}
 use Rattle.piece_lists.specs.Few.{list_of, piece_places}
 use Rattle.section.specs.Sections.{Addressable, moved_into, section}
 use Rattle.section.specs.declared.Section.{Section}
-use Rattle.piece_lists.proofs.Arrays.{length-of_mapped}
+use Rattle.piece_lists.proofs.Arrays.{length_of_mapped}
 use Rattle.table.proofs.MapFirst.{map_first-at, map_first_more, map_first-none, can_pack}
 use Rattle.table.specs.Moves.{map_first, moved_piece}
 use Rattle.table.proofs.Entry.moved.Statement.{statement}
@@ -28,7 +28,7 @@ decreases-loop self from to m items₀ j₀ items j = m - j
 
 loop-holds : tie.Need-loop-init invariant-loop decreases-loop
 loop-holds c =
-    let e : length c.before.before.args.self.pieces.items ≡ piece_places = search (rules, length-of_mapped) in
+    let e : length c.before.before.args.self.pieces.items ≡ piece_places = search (rules, length_of_mapped) in
     (omega arith, omega arith, e, sym (map_first-none _ _))
 
 mul-piece : tie.Need-overflow-mul-piece invariant-loop decreases-loop

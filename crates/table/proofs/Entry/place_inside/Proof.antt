@@ -10,7 +10,7 @@ use lib.ListN.{drop, length, take}
 use borrow.Author.Rules.{rules}
 use Rattle.piece_lists.specs.Few.{list_of, piece_places}
 use Rattle.section.specs.Sections.{Addressable, section}
-use Rattle.piece_lists.proofs.Arrays.{length-of_mapped, place_end, place_here, place_on}
+use Rattle.piece_lists.proofs.Arrays.{length_of_mapped, place_end, place_here, place_on}
 use Rattle.table.specs.Moves.{lies_in}
 use Rattle.piece_lists.specs.Places.{first_place}
 use Rattle.table.proofs.Entry.place_inside.Statement.{statement}
@@ -27,7 +27,7 @@ decreases-loop from list m place₀ place = m - place
 
 loop-holds : tie.Need-loop-init invariant-loop decreases-loop
 loop-holds c =
-    let e : length c.before.args.self.pieces.items ≡ piece_places = search (rules, length-of_mapped) in
+    let e : length c.before.args.self.pieces.items ≡ piece_places = search (rules, length_of_mapped) in
     (e, refl, omega arith, omega arith, omega arith)
 
 mul-piece : tie.Need-overflow-mul-piece invariant-loop decreases-loop

@@ -7,7 +7,7 @@ use lib.ListN.{drop, length, take}
 use borrow.Author.Rules.{rules}
 use borrow.Author.Tests.{le-leb, lt-leb}
 use Rattle.section.specs.Limits.{most_files}
-use Rattle.piece_lists.proofs.Arrays.{length-of_mapped, place_end, place_here, place_on}
+use Rattle.piece_lists.proofs.Arrays.{length_of_mapped, place_end, place_here, place_on}
 use Rattle.piece_lists.specs.Places.{first_place}
 use Rattle.table.proofs.FileLists.{no_lower_id}
 use Rattle.table.proofs.LookUps.{ends_found, ends_larger, ends_past}
@@ -25,7 +25,7 @@ decreases-loop id m files read₀ j₀ read j = m - j
 
 loop-holds : tie.Need-loop-init invariant-loop decreases-loop
 loop-holds c =
-    let e : length c.before.args.self.files ≡ most_files = search (rules, length-of_mapped) in
+    let e : length c.before.args.self.files ≡ most_files = search (rules, length_of_mapped) in
     (e, omega arith, omega arith, omega arith, omega arith)
 
 mul-e : tie.Need-overflow-mul-e invariant-loop decreases-loop

@@ -8,7 +8,7 @@ use lib.ListN.{drop, length, length-set, take}
 use borrow.Author.Rules.{rules}
 use Rattle.section.specs.Limits.{most_files}
 use Rattle.layout.specs.Lists.{Each}
-use Rattle.piece_lists.proofs.Arrays.{length-of_mapped, without_at-end, without_at_more, without_at_start}
+use Rattle.piece_lists.proofs.Arrays.{length_of_mapped, without_at-end, without_at_more, without_at_start}
 use Rattle.piece_lists.proofs.EachItem.{each_get, each_set}
 use Rattle.piece_lists.specs.Places.{without_at}
 use Rattle.table.proofs.Released.{layout_released}
@@ -34,7 +34,7 @@ array-copy-out-e c = search rules
 free-with-requires : tie.Need-free-with-requires invariant-loop decreases-loop
 free-with-requires c κs =
     let a = c.before.before.before in
-    let e : length a.args.self.files ≡ most_files = search (rules, length-of_mapped) in
+    let e : length a.args.self.files ≡ most_files = search (rules, length_of_mapped) in
     let k = each_get {P = InPlaces} a.args.i no_entry a.requires.0.each (omega arith) in
     (k, omega arith)
 
@@ -44,7 +44,7 @@ add-j c = search rules
 loop-holds : tie.Need-loop-init invariant-loop decreases-loop
 loop-holds c =
     let a = c.before.before.before.before in
-    let e : length a.args.self.files ≡ most_files = search (rules, length-of_mapped) in (
+    let e : length a.args.self.files ≡ most_files = search (rules, length_of_mapped) in (
       e,
       omega arith,
       omega arith,
@@ -97,7 +97,7 @@ returns c =
     let l = c.before.loop in
     let v = l.invariant in
     let f = c.before.before.free-with in
-    let e : length a.args.self.files ≡ most_files = search (rules, length-of_mapped) in
+    let e : length a.args.self.files ≡ most_files = search (rules, length_of_mapped) in
     let q = each_get {P = InPlaces} a.args.i no_entry a.requires.0.each (omega arith) in
     record {
       layout = layout_released a.args.self (record {

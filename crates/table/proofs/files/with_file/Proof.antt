@@ -10,7 +10,7 @@ use borrow.Author.Rules.{rules}
 use borrow.Author.Tests.{le-leb, lt-leb}
 use Rattle.section.specs.Limits.{most_files}
 use Rattle.layout.specs.Lists.{Each}
-use Rattle.piece_lists.proofs.Arrays.{length-of_mapped, place_end, place_here, place_on}
+use Rattle.piece_lists.proofs.Arrays.{length_of_mapped, place_end, place_here, place_on}
 use Rattle.piece_lists.proofs.Arrays.{with_at-end, with_at_more, with_at_start}
 use Rattle.piece_lists.proofs.EachItem.{each_get, each_set}
 use Rattle.piece_lists.specs.Places.{first_place, with_at}
@@ -39,7 +39,7 @@ decreases-shift t free m id files₀ j₀ carry₀ files j carry = m - j
 
 rank-holds : tie.Need-rank-init invariant-rank decreases-rank invariant-shift decreases-shift
 rank-holds c =
-    let e : length c.before.args.t.files ≡ most_files = search (rules, length-of_mapped) in
+    let e : length c.before.args.t.files ≡ most_files = search (rules, length_of_mapped) in
     (e, omega arith, omega arith, omega arith)
 
 mul-x : tie.Need-overflow-mul-x invariant-rank decreases-rank invariant-shift decreases-shift

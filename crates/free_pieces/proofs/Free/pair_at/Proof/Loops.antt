@@ -7,7 +7,7 @@ use native.Mathlib.Omega.{arith}
 use lib.ListN.{drop, length, length-set, take}
 use borrow.Author.Rules.{rules}
 use Rattle.piece.specs.Packed.{no_piece}
-use Rattle.piece_lists.proofs.Arrays.{length-of_mapped, without_at_more, without_at_start}
+use Rattle.piece_lists.proofs.Arrays.{length_of_mapped, without_at_more, without_at_start}
 use Rattle.piece_lists.specs.Places.{without_at}
 use Rattle.free_pieces.specs.Free.{free_places}
 use Rattle.free_pieces.proofs.Free.pair_at.Tie as tie
@@ -32,7 +32,7 @@ pub first_holds : tie.Need-first-init Inv-first μ-first Inv-second μ-second
 first_holds c =
     let a = c.before.before.args in
     let q = c.before.before.requires in
-    let e : length a.self.items ≡ free_places = search (rules, length-of_mapped) in
+    let e : length a.self.items ≡ free_places = search (rules, length_of_mapped) in
     (e, q.0, omega (arith, q.1.0), omega arith, without_at_start a.self.items a.self.count a.low q.1.0)
 
 pub first-again : tie.Need-first-preserved Inv-first μ-first Inv-second μ-second

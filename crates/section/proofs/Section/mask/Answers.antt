@@ -1,0 +1,8 @@
+-- `section::Section::mask` meets its contract: one less than the length. Assumes nothing.
+use mathlib.Core.Path.{ap}
+use Prim.Native.Nat.{ℕ, ◌-◌}
+use borrow.Author.Rules.{rules}
+use Rattle.section.proofs.Section.mask.Goals as goal
+
+pub returns : goal.returns
+returns c = ap (λ (n : ℕ). n - 1) c.length.ensures.equal

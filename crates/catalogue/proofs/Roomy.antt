@@ -55,6 +55,7 @@ all_roomy = more version1_roomy (more version2_roomy done)
 pub each_one {κ} : {A : Type 0} {P : A → Type κ} {l : List A} {a : A} → Each P l → OneOf a l → P a
 each_one (more p e) here = p
 each_one (more p e) (later o) = each_one e o
+each_one {A = A} {P = P} {a = a} done o = elim o [ ]
 
 pub roomy : {v : Version} → OneOf v versions → Roomy v
 roomy = each_one all_roomy

@@ -52,7 +52,7 @@ module _ (v : Version) (known : OneOf v versions) where
         blocks = refl;
         disk_length = ld;
         lines = refl;
-        file_blocks = lines-blocks d l.files;
+        blocks_of_files = lines-blocks d l.files;
         file_pieces = file_pieces_ones v.heights l s;
         free_pieces =
             subst (λ n. OnePiecePerOne n l.free) (sym (book_free_lem d l)) (free_pieces_ones v.heights l s);

@@ -130,7 +130,7 @@ pub record Afterwards (v : Version) (cat d : List ℕ) (b : Book) : Type 0 where
   -- its ids are those of the lines, and the blocks of a file's pieces hold the line's pages in page order
   pub lines : map (line_on d) layout.files ≡ b.lines
   -- each n is the count of the line's pages
-  pub file_blocks : map file_blocks layout.files ≡ map (λ (x : Line). length x.pages) b.lines
+  pub blocks_of_files : map file_blocks layout.files ≡ map (λ (x : Line). length x.pages) b.lines
   -- the pieces of a file are the ones of n, those that are free the ones of f
   pub file_pieces : Each (λ (f : File). OnePiecePerOne (file_blocks f) f.pieces) layout.files
   pub free_pieces : OnePiecePerOne (book_free b) layout.free

@@ -1,0 +1,21 @@
+-- `Free::few` meets its contract: after `j` turns the first `j` places hold the first `j` pieces. Assumes nothing.
+use mathlib.Core.Path.{◌≡◌, refl}
+use Prim.Native.Nat.{◌-◌, ◌≤◌}
+use native.Mathlib.Omega.{arith}
+use lib.ListN.{length, length-set, take}
+use lib.Seq.{length-take-le}
+use borrow.Author.Rules.{rules}
+use Rattle.piece_lists.specs.Few.{list_of, piece_places}
+use Rattle.free_pieces.specs.Free.{free_of, free_places}
+use Rattle.piece.specs.Packed.{seen}
+use Rattle.piece.proofs.Seen.{seen-length, seen_same}
+use Rattle.piece_lists.proofs.Arrays.{copied_more, length_of_mapped}
+use Rattle.free_pieces.proofs.Free.few.Given as goal
+
+abbrev pub invariant-loop-j : goal.invariant-loop-j
+invariant-loop-j l =
+    (l.count ≡ l.self.count) × (l.count ≤ piece_places) × (length l.self.items ≡ free_places) × (length l.items ≡ piece_places)
+    × (l.j ≤ l.count) × (take l.j l.items ≡ take l.j l.self.items)
+
+abbrev pub decreases-loop-j : goal.decreases-loop-j
+decreases-loop-j l = l.count - l.j

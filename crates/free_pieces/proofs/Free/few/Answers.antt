@@ -24,7 +24,7 @@ loop-j-preserved c =
       v.2,
       simp length-set v.3,
       omega arith,
-      copied_more l.items c.args.t1.items l.j _ (omega arith) (omega arith) v.5,
+      copied_more l.items c.args.self.items l.j _ (omega arith) (omega arith) v.5,
     )
 
 pub returns : goal.returns
@@ -32,7 +32,7 @@ unfolding free_of list_of
 returns c =
     let l = c.loop-j in
     let v = l.invariant in
-    let p = c.args.t1 in
+    let p = c.args.self in
     let e : l.j ≡ p.count = omega arith in
     record {
       count = refl;

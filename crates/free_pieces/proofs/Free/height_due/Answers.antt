@@ -21,7 +21,7 @@ use Rattle.free_pieces.proofs.Free.height_due.Goals as goal
 
 pub heights-init : goal.heights-init
 heights-init c =
-    let e : length c.args.t1.items ≡ free_places = search (rules, length_of_mapped) in
+    let e : length c.args.self.items ≡ free_places = search (rules, length_of_mapped) in
     (e, refl, omega arith, refl)
 
 pub pieces-init : goal.pieces-init
@@ -29,7 +29,7 @@ pieces-init c = (c.heights.invariant.0, refl, c.requires, omega arith, omega ari
 
 pub pieces-preserved : goal.pieces-preserved
 pieces-preserved c =
-    let words = c.args.t1.items in
+    let words = c.args.self.items in
     let items = seen words in
     let n = seen-length words in
     let h = c.heights.h in
@@ -52,7 +52,7 @@ pieces-preserved c =
 pub returns-then-n-gt1 : goal.returns-then-n-gt1
 unfolding free_of
 returns-then-n-gt1 c =
-    let self = c.args.t1 in
+    let self = c.args.self in
     let l = c.heights in
     let k = c.pieces in
     let all : k.j ≡ self.count = omega (arith, k.invariant.3, c.pieces-test.false) in
@@ -66,7 +66,7 @@ returns-then-n-gt1 c =
 pub heights-preserved : goal.heights-preserved
 unfolding pair_of free_of
 heights-preserved c =
-    let self = c.args.t1 in
+    let self = c.args.self in
     let free = free_of self in
     let l = c.heights in
     let h = l.h in

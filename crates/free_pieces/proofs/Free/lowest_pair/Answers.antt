@@ -74,23 +74,30 @@ returns-then-h-gt-GREATEST c =
 pub place_from-next-requires : goal.place_from-next-requires
 place_from-next-requires c =
     let a = c.args.self in
-    let q = c.requires in
     let d = c.height_due-h in
     let e : length a.items ≡ free_places = search (rules, length_of_mapped) in
-    let n = free-length a e q.0 in
+    let n = free-length a e c.requires.count_le_free_places in
     let two = d.ensures.two (omega (arith, c.if-h-gt-GREATEST.false)) in
     let none = no_buddies d.result (free_of a)
     (omega (arith, n, c.place_of_buddies-low.ensures.place, c.if-self-low.true)) in
     let low = place_all (has_height d.result) (free_of a) 0 _ c.place_from-low.ensures.place (omega arith) in
-    (q.0, omega (arith, low, low_there d.result (free_of a) none two, n))
+    record {
+      count_le_free_places = c.requires.count_le_free_places;
+      from_le_count = omega (arith, low, low_there d.result (free_of a) none two, n);
+    }
 
 pub pair_at-requires : goal.pair_at-requires
 pair_at-requires c =
-    let at = places c in
-    let n = exact c in (
-      c.requires.count_le_free_places,
-      (omega (arith, at.lower, n), omega (arith, at.upper, n)),
-    )
+    let whole = (let at = places c in
+        let n = exact c in (
+          c.requires.count_le_free_places,
+          (omega (arith, at.lower, n), omega (arith, at.upper, n)),
+        )) in
+    record {
+      count_le_free_places = whole.0;
+      low_lt_count = whole.1;
+      next_bound = whole.2;
+    }
 
 pub returns : goal.returns
 returns c =

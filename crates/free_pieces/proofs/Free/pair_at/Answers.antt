@@ -25,50 +25,46 @@ second-smaller c = omega (arith, c.second-test.true)
 pub returns : goal.returns
 unfolding free_of
 returns c =
-    let a = c.args in
-    let q = c.requires in
     let f = c.first in
     let g = c.second in
-    let m = a.self.count in
-    let items = a.self.items in
-    let once : without_at a.low (take m items) ≡ take (m - 1) f.items =
+    let m = c.args.self.count in
+    let items = c.args.self.items in
+    let once : without_at c.args.low (take m items) ≡ take (m - 1) f.items =
     f.invariant.4
     ∙ without_at-end f.items m f.i no_piece (omega (arith, f.invariant.0, f.invariant.1)) (omega (arith, f.invariant.3))
     (omega (arith, c.first-test.false)) f.invariant.2 in
-    let twice : without_at a.next (take (m - 1) f.items) ≡ take (m - 1 - 1) g.items =
+    let twice : without_at c.args.next (take (m - 1) f.items) ≡ take (m - 1 - 1) g.items =
     g.invariant.4
     ∙ without_at-end g.items (m - 1) g.j no_piece (omega (arith, g.invariant.0, g.invariant.1)) (omega (arith, g.invariant.3))
     (omega (arith, c.second-test.false)) g.invariant.2 in
-    let first : take (m - 1) (seen f.items) ≡ without_at a.low (take m (seen items)) =
+    let first : take (m - 1) (seen f.items) ≡ without_at c.args.low (take m (seen items)) =
     seen-take (m - 1) f.items
     ∙ (ap seen (sym once)
-    ∙ (seen-without a.low (take m items) ∙ ap (without_at a.low) (sym (seen-take m items)))) in
+    ∙ (seen-without c.args.low (take m items) ∙ ap (without_at c.args.low) (sym (seen-take m items)))) in
     record {
       found = refl;
       lower =
           c.section.ensures
-          ∙ (sym (seen_get items a.low) ∙ sym (get_or-take m (seen items) a.low (section 0 0) q.1.0));
+          ∙ (sym (seen_get items c.args.low) ∙ sym (get_or-take m (seen items) c.args.low (section 0 0) c.requires.low_lt_count.0));
       upper =
           c.section-2.ensures
-          ∙ (sym (seen_get f.items a.next)
-          ∙ (sym (get_or-take (m - 1) (seen f.items) a.next (section 0 0) (omega (arith, q.1.1)))
-          ∙ ap (λ l. get_or l a.next (section 0 0)) first));
+          ∙ (sym (seen_get f.items c.args.next)
+          ∙ (sym (get_or-take (m - 1) (seen f.items) c.args.next (section 0 0) (omega (arith, c.requires.low_lt_count.1)))
+          ∙ ap (λ l. get_or l c.args.next (section 0 0)) first));
       others =
           seen-take (m - 1 - 1) g.items
           ∙ (ap seen (sym twice)
-          ∙ (seen-without a.next (take (m - 1) f.items)
-          ∙ ap (without_at a.next) (sym (seen-take (m - 1) f.items) ∙ first)));
+          ∙ (seen-without c.args.next (take (m - 1) f.items)
+          ∙ ap (without_at c.args.next) (sym (seen-take (m - 1) f.items) ∙ first)));
       exact = length-take-le (m - 1 - 1) (seen g.items)
           (omega (arith, seen-length g.items, g.invariant.0, g.invariant.1));
-      less = omega (arith, q.1.1);
+      less = omega (arith, c.requires.low_lt_count.1);
     }
 
 pub first-init : goal.first-init
 first-init c =
-    let a = c.args in
-    let q = c.requires in
-    let e : length a.self.items ≡ free_places = search (rules, length_of_mapped) in
-    (e, q.0, omega (arith, q.1.0), omega arith, without_at_start a.self.items a.self.count a.low q.1.0)
+    let e : length c.args.self.items ≡ free_places = search (rules, length_of_mapped) in
+    (e, c.requires.count_le_free_places, omega (arith, c.requires.low_lt_count.0), omega arith, without_at_start c.args.self.items c.args.self.count c.args.low c.requires.low_lt_count.0)
 
 pub first-preserved : goal.first-preserved
 first-preserved c =
@@ -85,14 +81,12 @@ first-preserved c =
 
 pub second-init : goal.second-init
 second-init c =
-    let a = c.args in
-    let q = c.requires in
     let l = c.first in (
       l.invariant.0,
       omega (arith, l.invariant.1),
-      omega (arith, q.1.1),
+      omega (arith, c.requires.low_lt_count.1),
       omega arith,
-      without_at_start l.items (a.self.count - 1) a.next (omega (arith, q.1.1)),
+      without_at_start l.items (c.args.self.count - 1) c.args.next (omega (arith, c.requires.low_lt_count.1)),
     )
 
 pub second-preserved : goal.second-preserved

@@ -17,49 +17,46 @@ use Rattle.free_pieces.proofs.Free.place_from.Goals as goal
 
 pub loop-place-init : goal.loop-place-init
 loop-place-init c =
-    let e : length c.args.t1.items ≡ free_places = search (rules, length_of_mapped) in
+    let e : length c.args.self.items ≡ free_places = search (rules, length_of_mapped) in
     (e, refl, c.requires.count_le_free_places, c.requires.from_le_count, refl)
 
 pub returns-then-height-h : goal.returns-then-height-h
 unfolding free_of
 returns-then-height-h c =
-    let a = c.args in
     let o = c.loop-place in
     let v = o.invariant in
-    let n = seen-length a.t1.items in
-    let x = ap (has_height a.h) (seen_get a.t1.items o.place) in
+    let n = seen-length c.args.self.items in
+    let x = ap (has_height c.args.h) (seen_get c.args.self.items o.place) in
     let lt = c.loop-place-test.true in
     record {
       most = v.3;
       place =
-          sym (place_here (has_height a.h) (seen a.t1.items) a.t1.count o.place (section 0 0)
+          sym (place_here (has_height c.args.h) (seen c.args.self.items) c.args.self.count o.place (section 0 0)
           (omega arith) lt (x ∙ eq-eqb _ _ (sym c.height.ensures ∙ c.if-height-h.true)))
           ∙ v.4;
     }
 
 pub loop-place-preserved : goal.loop-place-preserved
 loop-place-preserved c =
-    let a = c.args in
     let o = c.loop-place in
     let v = o.invariant in
-    let n = seen-length a.t1.items in
-    let x = ap (has_height a.h) (seen_get a.t1.items o.place) in
+    let n = seen-length c.args.self.items in
+    let x = ap (has_height c.args.h) (seen_get c.args.self.items o.place) in
     let lt = c.loop-place-test.true in
-    let on = place_on (has_height a.h) (seen a.t1.items) a.t1.count o.place (section 0 0)
+    let on = place_on (has_height c.args.h) (seen c.args.self.items) c.args.self.count o.place (section 0 0)
     (omega arith) lt (x ∙ ne_eqb _ _ (λ y. c.if-height-h.false (c.height.ensures ∙ y))) in
     (v.0, refl, v.2, omega arith, on ∙ v.4)
 
 pub returns : goal.returns
 unfolding free_of
 returns c =
-    let a = c.args in
     let o = c.loop-place in
     let v = o.invariant in
-    let n = seen-length a.t1.items in
+    let n = seen-length c.args.self.items in
     record {
       most = v.3;
       place =
-          sym (place_end (has_height a.h) (seen a.t1.items) a.t1.count o.place (section 0 0)
+          sym (place_end (has_height c.args.h) (seen c.args.self.items) c.args.self.count o.place (section 0 0)
           (omega arith) (omega (arith, c.loop-place-test.false)))
           ∙ v.4;
     }

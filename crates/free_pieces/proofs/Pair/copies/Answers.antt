@@ -11,8 +11,7 @@ use Rattle.free_pieces.proofs.Pair.copies.Goals as goal
 
 pub returns-then-buddy-upper : goal.returns-then-buddy-upper
 returns-then-buddy-upper c =
-    let a = c.args in
-    sym (ap length (copies-none a.self c.buddy-buddy.result c.buddy-buddy.ensures (omega (arith, c.if-buddy-upper.true))))
+    sym (ap length (copies-none c.args.self c.buddy-buddy.result c.buddy-buddy.ensures (omega (arith, c.if-buddy-upper.true))))
 
 pub loop-j-init : goal.loop-j-init
 loop-j-init c =
@@ -20,7 +19,11 @@ loop-j-init c =
 
 pub gap_before-gap-requires : goal.gap_before-gap-requires
 gap_before-gap-requires c =
-    counting_gap _ _ _ _ _ _ c.loop-j.invariant _ (omega (arith, c.loop-j-test.true)) c.section-s.ensures
+    let whole = (counting_gap _ _ _ _ _ _ c.loop-j.invariant _ (omega (arith, c.loop-j-test.true)) c.section-s.ensures) in
+    record {
+      addressable = whole.0;
+      at_le_first = whole.1;
+    }
 
 pub overflow_add-n : goal.overflow_add-n
 overflow_add-n c =

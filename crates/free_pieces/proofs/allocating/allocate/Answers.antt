@@ -37,22 +37,21 @@ pub returns-then-not-d : goal.returns-then-not-d
 returns-then-not-d c =
     let t = c.loop-h-test.true in
     let l = c.loop-h in
-    let a = c.args in
     let v = l.invariant in
     let d = c.take_piece-d in
     let h = l.h - 1 in
     let e : h + 1 ≡ l.h = omega (arith, t) in
     let low : h ≤ greatest_height = omega (arith, v.0, t) in
-    let digit = ap (λ (z : ℕ). a.n / z % 2) (sym c.length.ensures.equal)
+    let digit = ap (λ (z : ℕ). c.args.n / z % 2) (sym c.length.ensures.equal)
     ∙ c.if-n-length-eq1.true in
     let p = so_far l.list l.left in
     let r : Laid = record { ok = false; pieces = l.list; free = l.left } in
     let x = laid_failed p d.result (not-true _ c.if-not-d.true) in
     record {
       meaning =
-          onward_failed a.n h r refl
-          ∙ (onward-take a.n h p r d.result low refl digit d.ensures.meaning x
-          ∙ (ap (λ z. onward a.n z p) e ∙ (v.4 ∙ onward_start a.n a.free)));
+          onward_failed c.args.n h r refl
+          ∙ (onward-take c.args.n h p r d.result low refl digit d.ensures.meaning x
+          ∙ (ap (λ z. onward c.args.n z p) e ∙ (v.4 ∙ onward_start c.args.n c.args.free)));
       count = omega (arith, v.1);
       stocked = v.2;
     }
@@ -105,13 +104,12 @@ loop-h-preserved c =
 
 pub returns : goal.returns
 returns c =
-    let a = c.args in
     let l = c.loop-h in
     let v = l.invariant in
     record {
       meaning =
-          onward-end a.n l.h (so_far l.list l.left) (omega (arith, c.loop-h-test.false))
-          ∙ (v.4 ∙ onward_start a.n a.free);
+          onward-end c.args.n l.h (so_far l.list l.left) (omega (arith, c.loop-h-test.false))
+          ∙ (v.4 ∙ onward_start c.args.n c.args.free);
       count = omega arith;
       stocked = v.2;
     }

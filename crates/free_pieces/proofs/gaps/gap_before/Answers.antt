@@ -12,18 +12,16 @@ overflow_sub-result c =
 
 pub returns-then-is_inside : goal.returns-then-is_inside
 returns-then-is_inside c =
-    let a = c.args in
-    let e : is_inside a.s a.whole ≡ true = sym c.is_inside.ensures ∙ c.if-is_inside.true in
+    let e : is_inside c.args.s c.args.whole ≡ true = sym c.is_inside.ensures ∙ c.if-is_inside.true in
     record {
-      count = ap (λ v. cond v (a.s.first - a.at) 0) (sym e);
-      past = c.end-past.ensures ∙ ap (λ v. cond v (end_of a.s) a.at) (sym e);
+      count = ap (λ v. cond v (c.args.s.first - c.args.at) 0) (sym e);
+      past = c.end-past.ensures ∙ ap (λ v. cond v (end_of c.args.s) c.args.at) (sym e);
     }
 
 pub returns : goal.returns
 returns c =
-    let a = c.args in
-    let e : is_inside a.s a.whole ≡ false = sym c.is_inside.ensures ∙ c.if-is_inside.false in
+    let e : is_inside c.args.s c.args.whole ≡ false = sym c.is_inside.ensures ∙ c.if-is_inside.false in
     record {
-      count = ap (λ v. cond v (a.s.first - a.at) 0) (sym e);
-      past = ap (λ v. cond v (end_of a.s) a.at) (sym e);
+      count = ap (λ v. cond v (c.args.s.first - c.args.at) 0) (sym e);
+      past = ap (λ v. cond v (end_of c.args.s) c.args.at) (sym e);
     }

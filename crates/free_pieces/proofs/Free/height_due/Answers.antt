@@ -38,13 +38,13 @@ pieces-preserved c =
     let y = ap (λ z. z.height.value) (seen_get words l.j) ∙ sym c.height.ensures in
     let next = elim c.if-height-h.branch
     as (λ _. (c.if-height-h.n ≤ l.j + 1) × (c.if-height-h.n ≡ count_of h (take (l.j + 1) items))) [
-      | inl x ↦ (
-        omega (arith, x.1, v.4),
-        x.1 ∙ count_same h items l.j (section 0 0) (omega arith) l.n v.5 (y ∙ x.0.taken),
+      | goal.then-height-h w ↦ (
+        omega (arith, w.n-is, v.4),
+        w.n-is ∙ count_same h items l.j (section 0 0) (omega arith) l.n v.5 (y ∙ w.if-height-h.true),
       )
-      | inr x ↦ (
-        omega (arith, x.1, v.4),
-        x.1 ∙ count_other h items l.j (section 0 0) (omega arith) l.n v.5 (λ z. x.0.left (sym y ∙ z)),
+      | goal.else-height-h w ↦ (
+        omega (arith, w.n-is, v.4),
+        w.n-is ∙ count_other h items l.j (section 0 0) (omega arith) l.n v.5 (λ z. w.if-height-h.false (sym y ∙ z)),
       )
     ] in
     (v.0, refl, v.2, omega arith, next.0, next.1)

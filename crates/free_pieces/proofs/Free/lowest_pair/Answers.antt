@@ -13,50 +13,9 @@ use Rattle.free_pieces.proofs.BuddyPlaces.{buddies_places, no_buddies}
 use Rattle.free_pieces.proofs.Draws.{pair_end, pair_here}
 use Rattle.free_pieces.proofs.PairPlaces.{PairPlaces, free-length, low_there, lowest-places, places_same}
 use Rattle.free_pieces.specs.Free.{free_of, free_places, pair_of}
-use Rattle.free_pieces.proofs.Free.lowest_pair.Lts as lts
 use Rattle.free_pieces.specs.declared.Free.{Free}
 use Rattle.free_pieces.proofs.Free.lowest_pair.Goals as goal
-
--- where the pair is taken, the two stand
-module _ (c : lts.Joined2 (
-  height-due-reads.Asked,
-  height-due-reads.Learnt,
-  place-of-buddies-reads.Asked,
-  place-of-buddies-reads.Learnt,
-  place-from-reads.Asked,
-  place-from-reads.Learnt,
-  pair-at-reads.Asked,
-  pair-at-reads.Learnt,
-) reads.Pre reads.Post) where
-  abbrev self : Free
-  self = c.before.before.before.before.before.args.self
-
-  abbrev height : ℕ
-  height = c.before.before.before.before.height-due.result
-
-  exact : length (free_of self) ≡ self.count
-  exact =
-      let e : length self.items ≡ free_places = search (rules, length_of_mapped) in
-      free-length self e c.before.before.before.before.before.requires.0
-
-  places : PairPlaces height (free_of self) c.if2.low c.if2.next
-  places =
-      let b = c.before.before.place-of-buddies.ensures.place in
-      let n = exact in
-      elim c.if2.branch as (λ _. PairPlaces height (free_of self) c.if2.low c.if2.next) [
-        | inl x ↦ places_same
-            (lowest-places height (free_of self) (no_buddies height (free_of self) (omega (arith, n, b, x.0.taken)))
-            (c.before.before.before.before.height-due.ensures.two
-            (omega (arith, c.before.before.before.if1.false)))
-            x.1.result x.2.result
-            (place_all (has_height height) (free_of self) 0 _ x.1.ensures.place (omega arith))
-            x.2.ensures.place)
-            x.3 x.4
-        | inr x ↦ places_same
-            (buddies_places height (free_of self) c.before.before.before.before.before.requires.1
-            (omega (arith, n, b, x.0.left)))
-            (x.1 ∙ b) (x.2 ∙ b)
-      ]
+use Rattle.free_pieces.proofs.Free.lowest_pair.Goals.{else-self-low, then-self-low}
 
 pub returns-then-h-gt-GREATEST : goal.returns-then-h-gt-GREATEST
 unfolding pair_of
@@ -86,30 +45,57 @@ place_from-next-requires c =
       from_le_count = omega (arith, low, low_there d.result (free_of a) none two, n);
     }
 
+-- where the pair is taken, the two stand
 pub pair_at-requires : goal.pair_at-requires
 pair_at-requires c =
-    let whole = (let at = places c in
-        let n = exact c in (
-          c.requires.count_le_free_places,
-          (omega (arith, at.lower, n), omega (arith, at.upper, n)),
-        )) in
+    let a = c.args.self in
+    let free = free_of a in
+    let h = c.height_due-h.result in
+    let e : length a.items ≡ free_places = search (rules, length_of_mapped) in
+    let n = free-length a e c.requires.count_le_free_places in
+    let b = c.place_of_buddies-low.ensures.place in
+    let at = elim c.if-self-low.branch as (λ _. PairPlaces h free c.if-self-low.low c.if-self-low.next) [
+      | then-self-low w ↦ places_same
+          (lowest-places h free (no_buddies h free (omega (arith, n, b, w.if-self-low.true)))
+          (c.height_due-h.ensures.two (omega (arith, c.if-h-gt-GREATEST.false))) w.place_from-low.result
+          w.place_from-next.result (place_all (has_height h) free 0 _ w.place_from-low.ensures.place (omega arith))
+          w.place_from-next.ensures.place)
+          w.low-is w.next-is
+      | else-self-low w ↦ places_same
+          (buddies_places h free c.requires.in_order (omega (arith, n, b, w.if-self-low.false)))
+          (w.low-is ∙ b) (w.next-is ∙ b)
+    ] in
     record {
-      count_le_free_places = whole.0;
-      low_lt_count = whole.1;
-      next_bound = whole.2;
+      count_le_free_places = c.requires.count_le_free_places;
+      low_lt_count = omega (arith, at.lower, n);
+      next_bound = omega (arith, at.upper, n);
     }
 
 pub returns : goal.returns
 returns c =
-    let d = c.height_due-h in
-    let free = free_of (self c.before) in
+    let a = c.args.self in
+    let free = free_of a in
+    let h = c.height_due-h.result in
+    let e : length a.items ≡ free_places = search (rules, length_of_mapped) in
+    let n = free-length a e c.requires.count_le_free_places in
+    let b = c.place_of_buddies-low.ensures.place in
+    let at = elim c.if-self-low.branch as (λ _. PairPlaces h free c.if-self-low.low c.if-self-low.next) [
+      | then-self-low w ↦ places_same
+          (lowest-places h free (no_buddies h free (omega (arith, n, b, w.if-self-low.true)))
+          (c.height_due-h.ensures.two (omega (arith, c.if-h-gt-GREATEST.false))) w.place_from-low.result
+          w.place_from-next.result (place_all (has_height h) free 0 _ w.place_from-low.ensures.place (omega arith))
+          w.place_from-next.ensures.place)
+          w.low-is w.next-is
+      | else-self-low w ↦ places_same
+          (buddies_places h free c.requires.in_order (omega (arith, n, b, w.if-self-low.false)))
+          (w.low-is ∙ b) (w.next-is ∙ b)
+    ] in
     let r = c.pair_at in
     record {
       meaning =
-          pair_here (height_count - (d.result + 1)) d.result free r.result
-          ((places c.before).pairs _ r.result r.ensures) (height_count - d.result)
+          pair_here (height_count - (h + 1)) h free r.result (at.pairs _ r.result r.ensures) (height_count - h)
           (omega (arith, c.if-h-gt-GREATEST.false)) r.ensures.found
-          ∙ d.ensures.here;
+          ∙ c.height_due-h.ensures.here;
       exact = r.ensures.exact;
       less = λ _. r.ensures.less;
     }

@@ -45,11 +45,11 @@ returns c =
       found = refl;
       lower =
           c.section.ensures
-          ∙ (sym (seen_get items c.args.low) ∙ sym (get_or-take m (seen items) c.args.low (section 0 0) c.requires.low_lt_count.0));
+          ∙ (sym (seen_get items c.args.low) ∙ sym (get_or-take m (seen items) c.args.low (section 0 0) c.requires.low_lt_count));
       upper =
           c.section-2.ensures
           ∙ (sym (seen_get f.items c.args.next)
-          ∙ (sym (get_or-take (m - 1) (seen f.items) c.args.next (section 0 0) (omega (arith, c.requires.low_lt_count.1)))
+          ∙ (sym (get_or-take (m - 1) (seen f.items) c.args.next (section 0 0) (omega (arith, c.requires.next_bound)))
           ∙ ap (λ l. get_or l c.args.next (section 0 0)) first));
       others =
           seen-take (m - 1 - 1) g.items
@@ -58,13 +58,13 @@ returns c =
           ∙ ap (without_at c.args.next) (sym (seen-take (m - 1) f.items) ∙ first)));
       exact = length-take-le (m - 1 - 1) (seen g.items)
           (omega (arith, seen-length g.items, g.invariant.0, g.invariant.1));
-      less = omega (arith, c.requires.low_lt_count.1);
+      less = omega (arith, c.requires.next_bound);
     }
 
 pub first-init : goal.first-init
 first-init c =
     let e : length c.args.self.items ≡ free_places = search (rules, length_of_mapped) in
-    (e, c.requires.count_le_free_places, omega (arith, c.requires.low_lt_count.0), omega arith, without_at_start c.args.self.items c.args.self.count c.args.low c.requires.low_lt_count.0)
+    (e, c.requires.count_le_free_places, omega (arith, c.requires.low_lt_count), omega arith, without_at_start c.args.self.items c.args.self.count c.args.low c.requires.low_lt_count)
 
 pub first-preserved : goal.first-preserved
 first-preserved c =
@@ -84,9 +84,9 @@ second-init c =
     let l = c.first in (
       l.invariant.0,
       omega (arith, l.invariant.1),
-      omega (arith, c.requires.low_lt_count.1),
+      omega (arith, c.requires.next_bound),
       omega arith,
-      without_at_start l.items (c.args.self.count - 1) c.args.next (omega (arith, c.requires.low_lt_count.1)),
+      without_at_start l.items (c.args.self.count - 1) c.args.next (omega (arith, c.requires.next_bound)),
     )
 
 pub second-preserved : goal.second-preserved

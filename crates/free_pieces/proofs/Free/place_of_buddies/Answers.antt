@@ -33,7 +33,7 @@ returns-then-are_buddies c =
     let v = o.invariant in
     let n = seen-length c.args.self.items in
     let lt = c.loop-place-test.true in
-    let test = buddy-next c.args.h c.args.self.items c.args.self.count o.place (omega arith) c.requires.in_order.0
+    let test = buddy-next c.args.h c.args.self.items c.args.self.count o.place (omega arith) c.requires.in_order
     (omega (arith, lt)) _ _
     c.section.ensures c.section-in-loop-place.ensures in
     record {
@@ -55,7 +55,7 @@ loop-place-preserved c =
     let v = o.invariant in
     let n = seen-length c.args.self.items in
     let lt = c.loop-place-test.true in
-    let test = buddy-next c.args.h c.args.self.items c.args.self.count o.place (omega arith) c.requires.in_order.0
+    let test = buddy-next c.args.h c.args.self.items c.args.self.count o.place (omega arith) c.requires.in_order
     (omega (arith, lt)) _ _
     c.section.ensures c.section-in-loop-place.ensures in
     let on = place_on (has_free_buddy c.args.h (free_of c.args.self)) (seen c.args.self.items) c.args.self.count o.place
@@ -78,7 +78,7 @@ returns c =
             (omega (arith, c.loop-place-test.false)),
         c.loop-place-test.false,
         place_on test (seen c.args.self.items) m o.place (section 0 0) (omega arith) lt
-            (buddy-none c.args.h c.args.self.items m o.place (omega arith) c.requires.in_order.0
+            (buddy-none c.args.h c.args.self.items m o.place (omega arith) c.requires.in_order
             (omega (arith, lt, c.loop-place-test.false))),
       )
       | no ge ↦ omega (

@@ -17,10 +17,7 @@ use Rattle.free_pieces.specs.declared.Free.{Free}
 use Rattle.free_pieces.specs.declared.Laid.{Laid}
 use Rattle.piece_lists.specs.declared.Pieces.{Pieces}
 use Rattle.free_pieces.proofs.allocating.allocate.Goals as goal
-
--- the pieces laid so far and the free ones that are left
-abbrev so_far : Pieces → Free → Laid
-so_far list left = record { ok = true; pieces = list; free = left }
+use Rattle.free_pieces.proofs.allocating.allocate.Invariants.{so_far}
 
 pub loop-h-init : goal.loop-h-init
 loop-h-init c = (omega arith, omega arith, c.requires, refl, refl)

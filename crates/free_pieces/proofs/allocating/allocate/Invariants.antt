@@ -18,6 +18,10 @@ use Rattle.free_pieces.specs.declared.Laid.{Laid}
 use Rattle.piece_lists.specs.declared.Pieces.{Pieces}
 use Rattle.free_pieces.proofs.allocating.allocate.Given as goal
 
+-- the pieces laid so far and the free ones that are left
+abbrev pub so_far : Pieces → Free → Laid
+so_far list left = record { ok = true; pieces = list; free = left }
+
 abbrev pub invariant-loop-h : goal.invariant-loop-h
 invariant-loop-h l =
     (l.h ≤ height_count) × (l.list.count + l.h ≤ piece_places) × Stocked l.left × (length l.list.items ≡ piece_places)

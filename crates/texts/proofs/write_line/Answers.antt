@@ -24,16 +24,15 @@ write_decimal-d-requires c =
 
 pub write_bytes-requires : goal.write_bytes-requires
 write_bytes-requires c =
-    let a = c.args«?» in
-    record { fits = omega (arith, line_size a.start.now a.m a.middle.now a.n) }
+    record { fits = omega (arith, line_size c.args.start.now c.args.m c.args.middle.now c.args.n) }
 
 pub returns : goal.returns
 returns c =
     joined
-    c.write_bytes.ensures«?»
+    c.write_bytes-a.ensures
     (joined
-    c.write-decimal.ensures«?»
+    c.write_decimal-b.ensures
     (joined
-    c.write-bytes2.ensures«?»
-    (joined c.write-decimal2.ensures«?»
+    c.write_bytes-c.ensures
+    (joined c.write_decimal-d.ensures
     c.write_bytes.ensures)))

@@ -9,35 +9,19 @@ use Rattle.catalogue.specs.Version.{short_field}
 use Rattle.catalogue.proofs.Fields.{big_endian-length}
 use Rattle.encoder.specs.Store.{Written}
 use Rattle.encoder.proofs.StoreWritten.{field_all, field_more, field_none}
-use Rattle.encoder.proofs.storing.write_short.Statement.{statement}
-use Rattle.encoder.proofs.storing.write_short.Tie as tie
+use Rattle.encoder.proofs.storing.write_short.Goals as goal
 
-cast-cat : tie.Need-overflow-cast-cat
-cast-cat c = search rules
+pub bounds-cat-at : goal.bounds-cat-at
+bounds-cat-at c = omega (arith, big_endian-length short_field c.args.value)
 
-add-cat : tie.Need-overflow-add-cat
-add-cat c = search rules
-
-slice-write-cat : tie.Need-slice-write-cat
-slice-write-cat c = omega (arith, big_endian-length short_field c.args.value)
-
-cast-cat-2 : tie.Need-overflow-cast-cat-2
-cast-cat-2 c = search rules
-
-slice-write-cat-2 : tie.Need-slice-write-cat-2
-slice-write-cat-2 c = omega (
+pub bounds-cat-at-2 : goal.bounds-cat-at-2
+bounds-cat-at-2 c = omega (
   arith,
   length-set c.args.cat.now (c.args.at + 1) (c.args.value % byte_values),
   big_endian-length short_field c.args.value,
 )
 
-add-result : tie.Need-overflow-add-result
-add-result c = search rules
-
-same_length : tie.Need-same-length
-same_length c = search rules
-
-returns : tie.Need-returns
+pub returns : goal.returns
 returns c =
     let cat = c.args.cat.now in
     let at = c.args.at in
@@ -51,16 +35,3 @@ returns c =
     (set (set cat (at + 1) (x % byte_values)) k (x / byte_values % byte_values)) (at + short_field)) start
     (field_all cat (set (set cat (at + 1) (x % byte_values)) (at + 0) (x / byte_values % byte_values)) at short_field x
     (x / byte_values / byte_values) 0 refl both)
-
-pub write-short-spec : {M : Type 1} → statement M
-write-short-spec =
-    tie.close
-    (tie.spec
-    cast-cat
-    add-cat
-    slice-write-cat
-    cast-cat-2
-    slice-write-cat-2
-    add-result
-    same_length
-    returns)

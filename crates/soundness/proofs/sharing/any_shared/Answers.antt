@@ -1,0 +1,69 @@
+-- `soundness::sharing::any_shared` meets its contract: every two pieces before `i`, and `i` up to `j`. Assumes
+-- nothing.
+use mathlib.Core.Bool.{false, not}
+use mathlib.Core.List.{List}
+use mathlib.Core.Path.{◌≡◌, ◌∙◌, ap, refl, sym}
+use Prim.Native.Nat.{◌+◌, ◌-◌, ◌<◌, ◌≤◌}
+use native.Mathlib.Omega.{arith}
+use lib.ListN.{get_or}
+use borrow.Author.Rules.{rules}
+use Rattle.section.specs.declared.Section.{Section}
+use Rattle.soundness.specs.Sharing.{Noted, far, group_size}
+use Rattle.soundness.proofs.Groups.{apart, group_fails, row_group, rows_through}
+use Rattle.soundness.proofs.Points.{Row, Rows, row_start, rows_more, rows_none}
+use Rattle.soundness.proofs.sharing.any_shared.Goals as goal
+
+pub pairs-init : goal.pairs-init
+pairs-init c = (refl, omega arith, λ l _. rows_none l c.args.count far apart)
+
+pub loop-j-init : goal.loop-j-init
+loop-j-init c =
+    let n = c.args.count in
+    let w = c.pairs in
+    let v = w.invariant in (
+      v.0,
+      c.pairs-test.true,
+      omega arith,
+      omega arith,
+      λ l h. (v.2 l h, row_start l n far apart w.i),
+    )
+
+pub loop-j-preserved : goal.loop-j-preserved
+loop-j-preserved c =
+    let i = c.pairs.i in
+    let w = c.loop-j in
+    let v = w.invariant in (
+      v.0,
+      v.1,
+      omega arith,
+      omega arith,
+      λ l h. (
+        (v.4 l h).0,
+        row_group l i w.j group_size (v.4 l h).1
+            (sym (c.group_shares.ensures l (get_or l i far) h (h.spans i (omega arith))) ∙ c.if-group_shares.false),
+      ),
+    )
+
+pub pairs-preserved : goal.pairs-preserved
+pairs-preserved c =
+    let n = c.args.count in
+    let i = c.pairs.i in
+    let w = c.loop-j in
+    let v = w.invariant in (
+      v.0,
+      omega arith,
+      λ l h. rows_more l n far apart i w.j c.loop-j-test.false (v.4 l h).0 (v.4 l h).1,
+    )
+
+pub returns-after-pairs : goal.returns-after-pairs
+returns-after-pairs c l e h ends =
+    let w = c.pairs in
+    w.invariant.0 ∙ sym (ap not (rows_through l _ e w.i c.pairs-test.false (w.invariant.2 l h)))
+
+pub returns-then-group_shares : goal.returns-then-group_shares
+returns-then-group_shares c l e h ends =
+    let i = c.pairs.i in
+    let w = c.loop-j in
+    sym (ap not
+    (group_fails l _ e ends i w.j group_size w.invariant.2 w.invariant.1
+    (sym (c.group_shares.ensures l (get_or l i far) h (h.spans i (omega arith))) ∙ c.if-group_shares.true)))

@@ -104,9 +104,9 @@ loop-i-preserved c =
       v.3,
       omega arith,
       omega (arith, v.5, n),
-      ap length more ∙ (length-append q (list_of e.pieces) ∙ omega (arith, v.6, r.0)),
-      ap (every p) more ∙ (every_joined p q (list_of e.pieces) v.7 ∙ (sym r.1.0 ∙ holds)),
-      subst (λ x. Noted x z.0 z.1.0) (sym more) (r.1.1 q v.6 v.8 holds),
+      ap length more ∙ (length-append q (list_of e.pieces) ∙ omega (arith, v.6, r.exact)),
+      ap (every p) more ∙ (every_joined p q (list_of e.pieces) v.7 ∙ (sym r.disk ∙ holds)),
+      subst (λ x. Noted x z.firsts z.masks) (sym more) (r.noted q v.6 v.8 holds),
       rising_more files l.i l.last v.9 (omega (arith, c.if-entry-last.false)),
     )
 
@@ -133,10 +133,10 @@ returns c =
     (omega (arith, e)) v.9 in
     record {
       passed =
-          r.1.0
+          r.disk
           ∙ (sym (every_joined p q (list_of c.args.free) v.7)
           ∙ (ap (every p) all ∙ sym (ap (λ y. y && every p (all_pieces (layout_of c.args.table))) rise)));
       few = omega (arith, v.1, v.4, v.5, x.1);
-      end = λ h. sym (ap length all) ∙ (length-append q (list_of c.args.free) ∙ omega (arith, v.6, r.0));
-      noted = λ h. subst (λ y. Noted y z.0 z.1.0) all (r.1.1 q v.6 v.8 h);
+      end = λ h. sym (ap length all) ∙ (length-append q (list_of c.args.free) ∙ omega (arith, v.6, r.exact));
+      noted = λ h. subst (λ y. Noted y z.firsts z.masks) all (r.noted q v.6 v.8 h);
     }

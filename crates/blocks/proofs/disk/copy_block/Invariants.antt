@@ -1,0 +1,24 @@
+-- `copy_block` stores the bytes of the one block in the other. Each turn stores one byte more, and the byte that it
+-- reads is still as it was. Assumes nothing.
+-- `copy_block` stores the bytes of the one block in the other. Each turn stores one byte more, and the byte that it
+-- reads is still as it was. Assumes nothing.
+-- `copy_block` stores the bytes of the one block in the other. Each turn stores one byte more, and the byte that it
+-- reads is still as it was. Assumes nothing.
+use mathlib.Core.Path.{◌∙◌, ◌≡◌, refl}
+use Prim.Native.Nat.{◌*◌, ◌-◌, ◌≤◌}
+use native.Mathlib.Omega.{arith}
+use lib.ListN.{length, length-set}
+use borrow.Author.Rules.{rules}
+use Rattle.blocks.proofs.DiskStoring.{source_kept, storing, storing-all, storing_more, storing-none}
+use Rattle.manager.proofs.Blocks.{block-length}
+use Rattle.manager.specs.Disk.{block}
+use Rattle.section.specs.Limits.{block_size}
+use Rattle.blocks.proofs.disk.copy_block.Given as goal
+
+abbrev pub invariant-loop-i : goal.invariant-loop-i
+invariant-loop-i l =
+    (l.source ≡ block_size * l.from) × (l.target ≡ block_size * l.to) × (l.i ≤ block_size) × (length l.disk ≡ length l.initial.disk)
+    × (l.disk ≡ storing l.initial.disk l.to (block l.initial.disk l.from) l.i)
+
+abbrev pub decreases-loop-i : goal.decreases-loop-i
+decreases-loop-i l = block_size - l.i

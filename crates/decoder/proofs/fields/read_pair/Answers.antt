@@ -1,0 +1,36 @@
+-- `decoder::fields::read_pair` meets its contract: two fields are the pair, if the second is a length and the first can
+-- be a block of a disk. Assumes nothing.
+use mathlib.Core.Path.{◌∙◌, sym}
+use native.Mathlib.Omega.{arith}
+use borrow.Author.Rules.{rules}
+use Rattle.section.proofs.Lengths.{length-of-height}
+use Rattle.decoder.proofs.Places.{no_pair_at, pair_far, pair_none, pair_short, some_pair_at}
+use Rattle.decoder.proofs.fields.read_pair.Goals as goal
+
+pub returns-then-s-at : goal.returns-then-s-at
+returns-then-s-at c =
+    no_pair_at _ _ _ _ (pair_short c.args.width c.args.s.now c.args.at c.if-s-at.true) c.no_pair.ensures
+
+pub returns-then-first-ge-GREATEST_DISK : goal.returns-then-first-ge-GREATEST_DISK
+returns-then-first-ge-GREATEST_DISK c =
+    no_pair_at _ _ _ _ (pair_far c.args.width c.args.s.now c.args.at _ _ c.read_field-first.ensures
+    c.read_field-length.ensures c.if-first-ge-GREATEST_DISK.true) c.no_pair-then-first-ge-GREATEST_DISK.ensures
+
+pub of-piece-requires : goal.of-piece-requires
+of-piece-requires c =
+    let l = (length-of-height _ _ (sym c.of_length-measured.ensures ∙ c.in-Height.is)).0 in
+    record { first = omega (arith, c.if-first-ge-GREATEST_DISK.false); height = omega (arith, l) }
+
+pub returns-in-Height : goal.returns-in-Height
+returns-in-Height c =
+    some_pair_at c.args.width c.args.s.now c.args.at _ _ c.read_field-first.ensures c.read_field-length.ensures _
+    (omega (arith, c.if-first-ge-GREATEST_DISK.false))
+    (sym c.of_length-measured.ensures ∙ c.in-Height.is)
+    (omega arith) _
+    c.of-piece.ensures.holds
+
+pub returns-in-NoLength : goal.returns-in-NoLength
+returns-in-NoLength c =
+    no_pair_at _ _ _ _ (pair_none c.args.width c.args.s.now c.args.at _ _ c.read_field-first.ensures
+    c.read_field-length.ensures (sym c.of_length-measured.ensures ∙ c.in-NoLength.is))
+    c.no_pair-in-NoLength.ensures

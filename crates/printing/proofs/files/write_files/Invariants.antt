@@ -1,0 +1,27 @@
+-- `write_files` appends the lines of each file. The loop's invariant: the lines of the files from `i` on are left
+-- to write. Assumes nothing.
+use mathlib.Core.List.{map}
+use mathlib.Core.Path.{◌≡◌}
+use Prim.Native.Nat.{◌+◌, ◌-◌, ◌≤◌}
+use native.Mathlib.Omega.{arith}
+use borrow.Author.Rules.{rules}
+use lib.ListN.{drop, get_or, length, take}
+use Rattle.section.specs.Limits.{most_files}
+use Rattle.manager.specs.Printing.{all_file_lines, file_lines}
+use Rattle.piece_lists.proofs.Arrays.{length_of_mapped}
+use Rattle.piece_lists.proofs.EachItem.{each_taken}
+use Rattle.table.specs.Files.{no_entry}
+use Rattle.table.specs.Tables.{file_of, files_of}
+use Rattle.pieces.specs.Pieces.{LowEntry}
+use Rattle.printing.proofs.Rows.{files_ahead, files_behind}
+use Rattle.texts.proofs.Writing.{Left, left_end, left_room, left_start, left_step}
+use Rattle.printing.proofs.files.write_files.Given as goal
+
+abbrev pub invariant-loop-i : goal.invariant-loop-i
+invariant-loop-i l =
+    (length l.files ≡ most_files) × (l.m ≤ most_files) × (l.i ≤ l.m)
+    × Left l.at (all_file_lines (map file_of (take l.m l.files))) l.initial.out l.out l.next
+    (all_file_lines (map file_of (drop l.i (take l.m l.files))))
+
+abbrev pub decreases-loop-i : goal.decreases-loop-i
+decreases-loop-i l = l.m - l.i

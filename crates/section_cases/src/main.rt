@@ -5,8 +5,8 @@ ghost use Rattle.std.specs.Prelude.{◌≡◌, true, ◌<◌};
 ghost use Rattle.section.specs.Heights.{NoHigher};
 ghost use Rattle.section.specs.Sections.{buddy_of, is_on_disk};
 
-use libc::STDOUT_FILENO;
 use section::{Height, Measured, Section};
+use std::io;
 
 // The buddy of the lower of two sections of one height: it is always on their disk.
 fn lower_buddy(lower: Section, upper: Section, blocks: u32) -> Section
@@ -22,42 +22,38 @@ fn lower_buddy(lower: Section, upper: Section, blocks: u32) -> Section
 }
 
 // Writes a word and a pair: first block and length.
-fn print_pair(word: &[u8], first: u32, length: u32) {
-    io::write_all(STDOUT_FILENO, word);
-    io::print_decimal(STDOUT_FILENO, first as u64);
-    io::write_all(STDOUT_FILENO, b" ");
-    io::print_decimal(STDOUT_FILENO, length as u64);
+fn print_pair(rt: &impl Print, word: &str, first: u32, length: u32) -> io::Result<()> {
+    print!(rt; "{word}{first} {length}")
 }
 
 // Writes the parent of a section, and its buddy where it has one on a disk of `blocks` blocks.
-fn print_parent_and_buddy(s: Section, blocks: u32)
+fn print_parent_and_buddy(rt: &impl Print, s: Section, blocks: u32) -> io::Result<()>
     requires { NoHigher s.height }
 {
     let height = s.height;
     let length = height.length();
     let parent = s.parent();
-    print_pair(b" parent ", parent.first, 2 * length);
+    print_pair(rt, " parent ", parent.first, 2 * length)?;
     if s.has_buddy(blocks) {
         let buddy = s.buddy();
-        print_pair(b" buddy ", buddy.first, length);
+        print_pair(rt, " buddy ", buddy.first, length)?;
     } else {
-        io::write_all(STDOUT_FILENO, b" no buddy");
+        print!(rt; " no buddy")?;
     }
-    io::write_all(STDOUT_FILENO, b"\n");
+    println!(rt;)
 }
 
 // Writes what section arithmetic says of a pair on a disk of `blocks` blocks: a line, whatever the numbers.
-fn print_section(first: u32, length: u32, blocks: u32) {
-    print_pair(b"", first, length);
+fn print_section(rt: &impl Print, first: u32, length: u32, blocks: u32) -> io::Result<()> {
+    print_pair(rt, "", first, length)?;
     let Measured::Height(height) = Height::of_length(length) else {
-        io::write_all(STDOUT_FILENO, b" no length\n");
-        return;
+        return println!(rt; " no length");
     };
     let s = Section { first, height };
     if s.is_on_disk(blocks) {
-        print_parent_and_buddy(s, blocks);
+        print_parent_and_buddy(rt, s, blocks)
     } else {
-        io::write_all(STDOUT_FILENO, b" no section\n");
+        println!(rt; " no section")
     }
 }
 
@@ -67,39 +63,39 @@ fn check_lower_buddy() {
     let lower = Section { first: 0, height };
     let upper = Section { first: 6, height };
     let buddy = lower_buddy(lower, upper, 16);
-    check::expect(buddy.first == 2);
+    prove!(buddy.first == 2);
 }
 
 // The disks of cases 3 and 7, and numbers that are no section.
-fn print_sections() {
-    print_section(0, 256, 261);
-    print_section(256, 4, 261);
-    print_section(260, 1, 261);
-    print_section(6, 2, 16);
-    print_section(12, 4, 16);
-    print_section(0, 16, 16);
-    print_section(6, 4, 16);
-    print_section(14, 4, 16);
-    print_section(0, 3, 16);
-    print_section(4294967295, 4294967295, 4294967295);
+fn print_sections(rt: &impl Print) -> io::Result<()> {
+    print_section(rt, 0, 256, 261)?;
+    print_section(rt, 256, 4, 261)?;
+    print_section(rt, 260, 1, 261)?;
+    print_section(rt, 6, 2, 16)?;
+    print_section(rt, 12, 4, 16)?;
+    print_section(rt, 0, 16, 16)?;
+    print_section(rt, 6, 4, 16)?;
+    print_section(rt, 14, 4, 16)?;
+    print_section(rt, 0, 3, 16)?;
+    print_section(rt, 4294967295, 4294967295, 4294967295)
 }
 
 // Lengths from the small catalogue's greatest to the large one's, numbers next to them, and the end of a large disk.
-fn print_large_sections() {
-    print_section(0, 4096, 8192);
-    print_section(0, 8192, 8192);
-    print_section(524288, 524288, 1048576);
-    print_section(524288, 524288, 1048575);
-    print_section(0, 1048576, 1048576);
-    print_section(0, 1048576, 1048575);
-    print_section(0, 1048577, 1048576);
-    print_section(0, 2097152, 1048576);
-    print_section(1048575, 1, 1048576);
-    print_section(1048574, 1, 1048575);
+fn print_large_sections(rt: &impl Print) -> io::Result<()> {
+    print_section(rt, 0, 4096, 8192)?;
+    print_section(rt, 0, 8192, 8192)?;
+    print_section(rt, 524288, 524288, 1048576)?;
+    print_section(rt, 524288, 524288, 1048575)?;
+    print_section(rt, 0, 1048576, 1048576)?;
+    print_section(rt, 0, 1048576, 1048575)?;
+    print_section(rt, 0, 1048577, 1048576)?;
+    print_section(rt, 0, 2097152, 1048576)?;
+    print_section(rt, 1048575, 1, 1048576)?;
+    print_section(rt, 1048574, 1, 1048575)
 }
 
-fn main() {
+fn main(rt: HostRuntime) -> io::Result<()> {
     check_lower_buddy();
-    print_sections();
-    print_large_sections();
+    print_sections(&rt)?;
+    print_large_sections(&rt)
 }

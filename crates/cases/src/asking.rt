@@ -37,7 +37,7 @@ fn ask(call: Call, cat: &mut [u8], disk: &mut [u8], buffer: &mut [u8], x: u32, y
 // is behind the pairs, where only zeros are sound, and is lent where the last one is not.
 fn prepare(cat: &mut [u8], disk: &mut [u8], size: Size, x: u32, y: u32) {
     let content = stores::page(lent::stored_letter(x, y), b'M');
-    let n = io::count(stores::catalogue_length(size, false), cat);
+    let n = stores::catalogue_length(size, false).min(cat.len());
     stores::fill(&mut cat[..n], disk, lent::end_of_files(x, y), &content);
     if lent::is_one_of(3, x, y) {
         if 2 <= n {
@@ -56,18 +56,18 @@ fn swap_version(cat: &mut [u8], size: Size, other: bool) {
 }
 
 // What the call gives back with so many bytes of the catalogue, where the refusals x and y apply.
-fn lend(call: Call, cat: &mut [u8], bytes: isize, disk: &mut [u8], x: u32, y: u32) -> Answer {
-    let mut buffer = io::large_buffer();
+fn lend(call: Call, cat: &mut [u8], bytes: usize, disk: &mut [u8], x: u32, y: u32) -> Answer {
+    let mut buffer = [0; 65536];
     buffer[6] = lent::letter(x, y);
-    let c = io::count(bytes, cat);
-    let d = io::count(lent::disk_length(x, y), disk);
-    let b = io::count(lent::buffer_length(x, y), &buffer);
+    let c = bytes.min(cat.len());
+    let d = lent::disk_length(x, y).min(disk.len());
+    let b = lent::buffer_length(x, y).min(buffer.len());
     ask(call, &mut cat[..c], &mut disk[..d], &mut buffer[..b], x, y)
 }
 
 // What the call gives back in a store in which the refusals x and y apply, with so many bytes of a catalogue that has
 // its own version, or the other one.
-pub(crate) fn reply(call: Call, size: Size, bytes: isize, other: bool, x: u32, y: u32) -> Answer {
+pub(crate) fn reply(call: Call, size: Size, bytes: usize, other: bool, x: u32, y: u32) -> Answer {
     let mut cat = stores::room();
     let mut disk = [0; 33792];
     prepare(&mut cat, &mut disk, size, x, y);

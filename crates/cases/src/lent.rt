@@ -16,7 +16,7 @@ pub(crate) fn end_of_files(x: u32, y: u32) -> u16 {
 }
 
 // The bytes of the disk that are lent.
-pub(crate) fn disk_length(x: u32, y: u32) -> isize {
+pub(crate) fn disk_length(x: u32, y: u32) -> usize {
     if is_one_of(2, x, y) {
         33281
     } else if is_one_of(4, x, y) {
@@ -42,7 +42,7 @@ pub(crate) fn id(call: Call, x: u32, y: u32) -> u16 {
 }
 
 // The bytes of content or output that are lent: 66 pages where there is to be no space for them, else one.
-pub(crate) fn buffer_length(x: u32, y: u32) -> isize {
+pub(crate) fn buffer_length(x: u32, y: u32) -> usize {
     if is_one_of(11, x, y) {
         if is_one_of(8, x, y) { 33793 } else { 33792 }
     } else if is_one_of(8, x, y) {

@@ -16,53 +16,54 @@ mod which;
 
 use case_inputs::Call;
 use section::Section;
+use std::io;
 use stores::Size;
 
 // Writes the lines of the limits.
-fn print_limits(cat: &mut [u8], size: Size) {
-    limits::print_adds(cat, size);
-    limits::print_reads(cat, size);
-    replacing::print_letters(cat, size);
-    replacing::print_spaces(cat, size);
-    replacing::print_last_file(cat, size);
-    replacing::print_result(cat, size);
-    look_ups::print_look_ups(cat, size);
-    which::print_lists(cat, size);
+fn print_limits(rt: &impl Print, cat: &mut [u8], size: Size) -> io::Result<()> {
+    limits::print_adds(rt, cat, size)?;
+    limits::print_reads(rt, cat, size)?;
+    replacing::print_letters(rt, cat, size)?;
+    replacing::print_spaces(rt, cat, size)?;
+    replacing::print_last_file(rt, cat, size)?;
+    replacing::print_result(rt, cat, size)?;
+    look_ups::print_look_ups(rt, cat, size)?;
+    which::print_lists(rt, cat, size)
 }
 
 // Writes the lines of the refusals of all calls.
-fn print_refusals(size: Size) {
-    refusals::print_rows(b"format ", Call::Format, size);
-    refusals::print_rows(b"add ", Call::Add, size);
-    refusals::print_rows(b"remove ", Call::Remove, size);
-    refusals::print_rows(b"replace ", Call::Replace, size);
-    refusals::print_rows(b"read ", Call::Read, size);
-    refusals::print_rows(b"breaks ", Call::Breaks, size);
-    refusals::print_rows(b"which ", Call::Which, size);
-    refusals::print_rows(b"free ", Call::Free, size);
-    refusals::print_rows(b"check ", Call::Check, size);
+fn print_refusals(rt: &impl Print, size: Size) -> io::Result<()> {
+    refusals::print_rows(rt, "format ", Call::Format, size)?;
+    refusals::print_rows(rt, "add ", Call::Add, size)?;
+    refusals::print_rows(rt, "remove ", Call::Remove, size)?;
+    refusals::print_rows(rt, "replace ", Call::Replace, size)?;
+    refusals::print_rows(rt, "read ", Call::Read, size)?;
+    refusals::print_rows(rt, "breaks ", Call::Breaks, size)?;
+    refusals::print_rows(rt, "which ", Call::Which, size)?;
+    refusals::print_rows(rt, "free ", Call::Free, size)?;
+    refusals::print_rows(rt, "check ", Call::Check, size)
 }
 
 // Writes the lines of all calls in buffers of many lengths.
-fn print_buffers(size: Size) {
-    buffers::print_buffers(b"format ", Call::Format, size);
-    buffers::print_buffers(b"add ", Call::Add, size);
-    buffers::print_buffers(b"remove ", Call::Remove, size);
-    buffers::print_buffers(b"replace ", Call::Replace, size);
-    buffers::print_buffers(b"read ", Call::Read, size);
-    buffers::print_buffers(b"breaks ", Call::Breaks, size);
-    buffers::print_buffers(b"which ", Call::Which, size);
-    buffers::print_buffers(b"free ", Call::Free, size);
-    buffers::print_buffers(b"check ", Call::Check, size);
+fn print_buffers(rt: &impl Print, size: Size) -> io::Result<()> {
+    buffers::print_buffers(rt, "format ", Call::Format, size)?;
+    buffers::print_buffers(rt, "add ", Call::Add, size)?;
+    buffers::print_buffers(rt, "remove ", Call::Remove, size)?;
+    buffers::print_buffers(rt, "replace ", Call::Replace, size)?;
+    buffers::print_buffers(rt, "read ", Call::Read, size)?;
+    buffers::print_buffers(rt, "breaks ", Call::Breaks, size)?;
+    buffers::print_buffers(rt, "which ", Call::Which, size)?;
+    buffers::print_buffers(rt, "free ", Call::Free, size)?;
+    buffers::print_buffers(rt, "check ", Call::Check, size)
 }
 
-fn main() {
+fn main(rt: HostRuntime) -> io::Result<()> {
     let mut small = [0; Section::SMALL_CATALOGUE];
-    print_limits(&mut small, Size::Small);
-    print_refusals(Size::Small);
-    print_buffers(Size::Small);
+    print_limits(&rt, &mut small, Size::Small)?;
+    print_refusals(&rt, Size::Small)?;
+    print_buffers(&rt, Size::Small)?;
     let mut large = [0; Section::LARGE_CATALOGUE];
-    print_limits(&mut large, Size::Large);
-    print_refusals(Size::Large);
-    print_buffers(Size::Large);
+    print_limits(&rt, &mut large, Size::Large)?;
+    print_refusals(&rt, Size::Large)?;
+    print_buffers(&rt, Size::Large)
 }

@@ -1,58 +1,64 @@
 // What the cases write.
 use crate::stores::Size;
 use case_inputs::number_of;
-use libc::STDOUT_FILENO;
 use looking::Answer;
+use std::io;
 
 // Writes words.
-pub(crate) fn print(words: &[u8]) {
-    io::write_all(STDOUT_FILENO, words);
+pub(crate) fn print(rt: &impl Print, words: &str) -> io::Result<()> {
+    print!(rt; "{words}")
 }
 
 // Writes a word and a number.
-pub(crate) fn print_number(word: &[u8], n: u32) {
-    print(word);
-    io::print_decimal(STDOUT_FILENO, n as u64);
+pub(crate) fn print_number(rt: &impl Print, word: &str, n: u32) -> io::Result<()> {
+    print!(rt; "{word}{n}")
 }
 
 // Writes the words if the catalogue is the large one.
-pub(crate) fn print_mark(size: Size, words: &[u8]) {
+pub(crate) fn print_mark(rt: &impl Print, size: Size, words: &str) -> io::Result<()> {
     if let Size::Large = size {
-        print(words);
+        print(rt, words)?;
     }
+    Ok(())
 }
 
 // Writes what a call gave back.
-pub(crate) fn print_answer(a: Answer) {
+pub(crate) fn print_answer(rt: &impl Print, a: Answer) -> io::Result<()> {
     if let Answer::Number(n) = a {
-        print_number(b"answered ", n);
+        print_number(rt, "answered ", n)
     } else if let Answer::FitsAlready = a {
-        print(b"fits already");
+        print(rt, "fits already")
     } else {
-        print_number(b"refused ", number_of(a));
+        print_number(rt, "refused ", number_of(a))
     }
 }
 
 // Writes it in a line that begins with the case's words.
-pub(crate) fn print_case(words: &[u8], a: Answer) {
-    print(words);
-    print_answer(a);
-    print(b"\n");
+pub(crate) fn print_case(rt: &impl Print, words: &str, a: Answer) -> io::Result<()> {
+    print(rt, words)?;
+    print_answer(rt, a)?;
+    print(rt, "\n")
 }
 
 // Writes such a line of a limit.
-pub(crate) fn print_limit(size: Size, words: &[u8], a: Answer) {
-    print_mark(size, b"large catalogue, ");
-    print_case(words, a);
+pub(crate) fn print_limit(rt: &impl Print, size: Size, words: &str, a: Answer) -> io::Result<()> {
+    print_mark(rt, size, "large catalogue, ")?;
+    print_case(rt, words, a)
 }
 
 // Writes whether two buffers are the same, in a line of a limit.
-pub(crate) fn print_same(size: Size, words: &[u8], a: &[u8], b: &[u8]) {
-    print_mark(size, b"large catalogue, ");
-    print(words);
-    if check::same(a, b) {
-        print(b"the same\n");
+pub(crate) fn print_same(
+    rt: &impl Print,
+    size: Size,
+    words: &str,
+    a: &[u8],
+    b: &[u8],
+) -> io::Result<()> {
+    print_mark(rt, size, "large catalogue, ")?;
+    print(rt, words)?;
+    if a == b {
+        print(rt, "the same\n")
     } else {
-        print(b"not the same\n");
+        print(rt, "not the same\n")
     }
 }

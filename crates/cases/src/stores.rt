@@ -9,17 +9,17 @@ pub enum Size {
 }
 
 // The bytes of the catalogue, or one less.
-pub(crate) fn catalogue_length(size: Size, short: bool) -> isize {
+pub(crate) fn catalogue_length(size: Size, short: bool) -> usize {
     match size {
         Size::Small => if short {
-            Section::SMALL_CATALOGUE as isize - 1
+            Section::SMALL_CATALOGUE - 1
         } else {
-            Section::SMALL_CATALOGUE as isize
+            Section::SMALL_CATALOGUE
         },
         Size::Large => if short {
-            Section::LARGE_CATALOGUE as isize - 1
+            Section::LARGE_CATALOGUE - 1
         } else {
-            Section::LARGE_CATALOGUE as isize
+            Section::LARGE_CATALOGUE
         },
     }
 }

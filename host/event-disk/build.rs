@@ -1,4 +1,4 @@
-//! Links the archive that `rt staticlib evdisk` writes, unless the plain twin takes its place.
+//! Links the archive that `rt lib` writes in crates/evdisk, unless the plain twin takes its place.
 
 use std::path::PathBuf;
 
@@ -7,11 +7,11 @@ fn main() {
         return;
     }
     let root = PathBuf::from(std::env::var("CARGO_MANIFEST_DIR").expect("cargo sets it"));
-    let folder = root.join("../../target/staticlib");
+    let folder = root.join("../../crates/evdisk/out");
     let archive = folder.join("libevdisk.a");
     println!("cargo:rerun-if-changed={}", archive.display());
     if !archive.exists() {
-        eprintln!("libevdisk.a is missing: run `rt staticlib evdisk` in the repository first");
+        eprintln!("libevdisk.a is missing: run `rt lib` in crates/evdisk first");
         std::process::exit(1);
     }
     println!("cargo:rustc-link-search=native={}", folder.display());

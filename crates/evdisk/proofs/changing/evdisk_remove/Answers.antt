@@ -1,0 +1,28 @@
+-- `evdisk::changing::evdisk_remove` meets its contract: the call's outcome, its answer a number. Assumes nothing.
+use mathlib.Core.Path.{◌∙◌, ap, refl, sym}
+use borrow.Author.Rules.{rules}
+use Rattle.looking.specs.Answers.{reply_of}
+use Rattle.manager.proofs.Untouched.{remove_no_output}
+use Rattle.manager.specs.Call.{remove}
+use Rattle.evdisk.specs.Codes.{code_of}
+use Rattle.evdisk.proofs.Promising.{as_promised}
+use Rattle.evdisk.proofs.Within.{code_within, strikes_never_fits}
+use Rattle.evdisk.proofs.changing.evdisk_remove.Goals as goal
+
+pub returns : goal.returns
+returns c =
+    let e = c.remove-a.ensures in
+    let number = c.code.ensures.signed ∙ c.code.ensures.value in
+    let within = code_within c.args.cat.now c.args.id (reply_of c.remove-a.result) _
+    (λ q. strikes_never_fits c.args.id (remove c.args.id) c.args.cat.now c.args.disk.now refl (sym e.answer ∙ q)) number
+    e.limit in
+    let answer = number ∙ ap code_of e.answer in
+    let silent = remove_no_output c.args.id c.args.cat.now c.args.disk.now in
+    let promised = as_promised _ _ _ _ answer e.catalogue e.disk silent in
+    record {
+      answer = answer;
+      catalogue = e.catalogue;
+      disk = e.disk;
+      limit = within;
+      listed = promised;
+    }

@@ -1,5 +1,4 @@
 -- The ids of choices, then zeros: what stands at each of the 64 places. Assumes nothing.
-use mathlib.Core.List.{List}
 use mathlib.Core.Path.{◌∙◌, ◌≡◌, ap}
 use Prim.Native.Nat.{◌+◌, ◌-◌, ◌<◌, ◌≤◌, ℕ}
 use native.Mathlib.Omega.{arith}

@@ -10,7 +10,6 @@ use borrow.Author.Tests.{eq-eqb, eqb-false, eqb-true, ne_eqb}
 use Rattle.layout.proofs.Lists.{each_append, each_left, each_right, sum-append}
 use Rattle.layout.specs.Layout.{File, Found, by_id, file_pieces, find_file, found, has_file, is_found, missing}
 use Rattle.layout.specs.Lists.{Each, done, insert_by, more, next, sum_of}
-use Rattle.layout.specs.Moves.{same}
 use Rattle.layout.specs.Removals.{Find, here, there}
 use Rattle.layout.specs.Removing.{without_file}
 use Rattle.layout.specs.Sums.{RisingIds, Shape, shape}

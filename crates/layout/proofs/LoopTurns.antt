@@ -9,7 +9,6 @@ use Rattle.layout.proofs.LoopMerges.{below_suc, none_counts, pair_fewer}
 use Rattle.layout.proofs.MergeOrder.{AtMostFrom, carry_on, released_two}
 use Rattle.layout.proofs.MergePairs.{merge_pair_is, MergeableOf}
 use Rattle.layout.proofs.MergeStep.{merge_keeps}
-use Rattle.layout.proofs.Merging.{carried}
 use Rattle.layout.proofs.Removed.{release_whole}
 use Rattle.layout.specs.Covering.{Whole, count_of}
 use Rattle.layout.specs.Layout.{File, Layout}

@@ -24,7 +24,7 @@ use Rattle.layout.specs.Covering.{Whole, count_of}
 use Rattle.layout.specs.Layout.{Layout, OnDisk, by_first, file_pieces, holds_block, in_range, of_height}
 use Rattle.layout.specs.Lists.{Each, sum_of}
 use Rattle.layout.specs.Merges.{IntoFree, MergeKeeps}
-use Rattle.layout.specs.Moves.{MergeParts, other_pieces, same}
+use Rattle.layout.specs.Moves.{MergeParts, other_pieces}
 use Rattle.layout.specs.Removing.{is_held, merge, moved_file}
 use Rattle.section.proofs.Booleans.{and_true, false_and}
 use Rattle.section.proofs.Multiples.{length_double}

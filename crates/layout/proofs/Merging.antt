@@ -12,7 +12,7 @@ use lib.Pow.{pow-lt, pow_pos}
 use borrow.Author.Tests.{eqb-false, eqb-true}
 use Rattle.layout.proofs.Lists.{each_and, each_imp, each_map, sum_ge_all}
 use Rattle.layout.proofs.Moving.{Carried, carry, move_covers}
-use Rattle.layout.proofs.Ranges.{in_range-apart, in_range-halves, in_range-le-one, within}
+use Rattle.layout.proofs.Ranges.{in_range-apart, in_range-halves, in_range-le-one}
 use Rattle.layout.specs.Covering.{Covers}
 use Rattle.layout.specs.Layout.{OnDisk, holds_block, in_range}
 use Rattle.layout.specs.Lists.{Each, more, sum_of}

@@ -16,7 +16,6 @@ use Rattle.layout.proofs.Splitting.{at_most_one_small, count_none, of_height_oth
 use Rattle.layout.specs.Covering.{AtMostOne, Falling, count_of}
 use Rattle.layout.specs.Layout.{OnePiecePerOne, block_count, breaks_of, by_length, digit, of_height}
 use Rattle.layout.specs.Lists.{Pairwise, done, next, none, sort_by, sum_of}
-use Rattle.layout.specs.Merges.{rest}
 use Rattle.section.proofs.Lengths.{length_unique}
 use Rattle.section.specs.Sections.{length_of, section}
 use Rattle.section.specs.declared.Section.{Section}

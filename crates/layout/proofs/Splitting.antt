@@ -9,7 +9,7 @@ use lib.Dec.{eqb}
 use borrow.Author.Tests.{eq-eqb, eqb-false, eqb-true, ne_eqb}
 use Rattle.layout.proofs.Digits.{val_lt, val_size}
 use Rattle.layout.proofs.Lists.{each_and, each_imp, each_insert, sum_insert}
-use Rattle.layout.proofs.Ranges.{in_range-halves, within}
+use Rattle.layout.proofs.Ranges.{in_range-halves}
 use Rattle.layout.proofs.Taking.{TakesOf, insert_rising, nothing_height, take_first_is, take_piece_highest}
 use Rattle.layout.proofs.Taking.{take_piece_or_split, takes_each, takes_height, takes_rising, takes_sum}
 use Rattle.layout.specs.Adding.{Taken, nothing, or_else, split_at, take_first, take_piece, taken}

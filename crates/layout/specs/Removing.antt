@@ -1,7 +1,7 @@
 -- Removing: the file's pieces become free, and while a height has two free pieces the lowest such height is merged: two
 -- that are buddies, else the two lowest. A removal is the list of its merges, each with its block copies and the layout
 -- that it leaves. Definitions only.
-use Rattle.std.specs.Prelude.{Bool, true, false, cond, ◌&&◌, List, [], ◌∷◌, ◌++◌, map, ℕ, zero, suc, ◌+◌, eqb, ltb, length}
+use Rattle.std.specs.Prelude.{Bool, true, false, cond, ◌&&◌, List, [], ◌∷◌, ◌++◌, map, ℕ, zero, suc, eqb, ltb, length}
 use Rattle.section.specs.declared.Section.{Section}
 use Rattle.section.specs.Sections.{length_of, buddy_of, parent_of, moved_into}
 use Rattle.layout.specs.Lists.{insert_by, sort_by, sum_of}

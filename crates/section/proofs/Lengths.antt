@@ -1,7 +1,7 @@
 -- Lengths and heights determine each other, and what is no power up to the greatest is no length. Assumes nothing.
 use mathlib.Core.Path.{◌≡◌, refl, sym, ap, ◌∙◌}
 use mathlib.Core.Logic.{inl, inr}
-use Prim.Native.Nat.{ℕ, zero, suc, ◌-◌, ◌^◌, ◌<◌, ◌≤◌}
+use Prim.Native.Nat.{ℕ, zero, suc, ◌^◌, ◌<◌, ◌≤◌}
 use native.Mathlib.Decide.{ℕ_discrete}
 use native.Mathlib.Omega.{arith}
 use lib.Pow.{pow-lt, pow_mono}
@@ -10,7 +10,6 @@ use Rattle.section.specs.Limits.{greatest_height, greatest_disk}
 use Rattle.section.specs.Heights.{height_of, height_up_to}
 use Rattle.section.proofs.Multiples.{below_or_not}
 use Rattle.section.specs.declared.Height.{Height}
-use Rattle.section.specs.declared.Measured.{Measured}
 use Rattle.section.specs.declared.Measured.TheVariants as Measured·
 
 -- the greatest length is the whole of the greatest disk

@@ -1,6 +1,5 @@
 -- `decoder::is_sound_read` meets its contract: what was read is judged as the definition judges it. Assumes nothing.
 use mathlib.Core.Path.{◌∙◌, refl, sym}
-use borrow.Author.Rules.{rules}
 use borrow.Author.Tests.{not-true, not-false}
 use Rattle.decoder.proofs.Judging.{judged-not-zero, judged_refused, judged-zero}
 use Rattle.decoder.proofs.is_sound_read.Goals as goal

@@ -1,6 +1,5 @@
 -- `print_refusal` writes the word, the number and the line's end. Assumes nothing.
 use native.Mathlib.Omega.{arith}
-use borrow.Author.Rules.{rules}
 use Rattle.manager.specs.Printing.{refusal_text}
 use Rattle.texts.proofs.Decimals.{digits_most}
 use Rattle.printing.proofs.TextRoom.{refusal_length}

@@ -1,7 +1,6 @@
 -- `settling::settle` meets its contract: after each turn some of the merges are made, with their copies, in the table
 -- with the free pieces that stand beside it. The inner loop moves the files of the table for one merge. Assumes
 -- nothing.
-use mathlib.Core.Logic.{inl, inr}
 use mathlib.Core.Path.{◌≡◌, ap, refl, subst, sym}
 use Prim.Native.Nat.{◌+◌, ◌-◌}
 use native.Mathlib.Omega.{arith}
@@ -14,7 +13,7 @@ use Rattle.table.proofs.FilesMoving.{FilesMoving, moving_can, moving-end, moving
 use Rattle.table.specs.declared.Table.{Table}
 use Rattle.settling.proofs.FreeBeside.{moving_beside, ready_beside, with_free}
 use Rattle.settling.proofs.MadeMerges.{made_in_order}
-use Rattle.settling.proofs.Settling.{Settling, settling_start, settling_ready, settling_copies, settling_more, settling_countable, settling_end}
+use Rattle.settling.proofs.Settling.{settling_start, settling_ready, settling_copies, settling_more, settling_countable, settling_end}
 use Rattle.settling.proofs.settle.Goals as goal
 use Rattle.settling.proofs.settle.Goals.{else-place_inside-list, then-place_inside-list}
 

@@ -1,20 +1,13 @@
 -- `settling::settle` meets its contract: after each turn some of the merges are made, with their copies, in the table
 -- with the free pieces that stand beside it. The inner loop moves the files of the table for one merge. Assumes
 -- nothing.
-use mathlib.Core.Logic.{inl, inr}
-use mathlib.Core.Path.{◌≡◌, ap, refl, subst, sym}
-use Prim.Native.Nat.{◌+◌, ◌-◌}
-use native.Mathlib.Omega.{arith}
+use mathlib.Core.Path.{◌≡◌}
+use Prim.Native.Nat.{◌-◌}
 use lib.ListN.{length}
-use borrow.Author.Rules.{rules}
-use borrow.Author.Tests.{not-false, not-true}
 use Rattle.section.specs.Limits.{most_files}
-use Rattle.piece_lists.proofs.Arrays.{length_of_mapped}
-use Rattle.table.proofs.FilesMoving.{FilesMoving, moving_can, moving-end, moving-kept, moving_long, moving_more, moving-places, moving_start}
-use Rattle.table.specs.declared.Table.{Table}
-use Rattle.settling.proofs.FreeBeside.{moving_beside, ready_beside, with_free}
-use Rattle.settling.proofs.MadeMerges.{made_in_order}
-use Rattle.settling.proofs.Settling.{Settling, settling_start, settling_ready, settling_copies, settling_more, settling_countable, settling_end}
+use Rattle.table.proofs.FilesMoving.{FilesMoving}
+use Rattle.settling.proofs.FreeBeside.{with_free}
+use Rattle.settling.proofs.Settling.{Settling}
 use Rattle.settling.proofs.settle.Given as goal
 
 -- the free pieces of before the merge are at hand no more, so the pair's others stand for them

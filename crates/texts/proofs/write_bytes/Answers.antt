@@ -1,10 +1,9 @@
 -- `write_bytes` appends the word. The loop's invariant: the buffer is the old one with the word's first `i` bytes
 -- copied in. Assumes nothing.
-use mathlib.Core.Path.{◌∙◌, ◌≡◌, ap, sym}
+use mathlib.Core.Path.{◌∙◌, ap, sym}
 use Prim.Native.Nat.{◌-◌, ◌+◌, ◌≤◌}
 use native.Mathlib.Numerals.{add-one}
 use native.Mathlib.Omega.{arith}
-use borrow.Author.Rules.{rules}
 use lib.ListN.{length, set, get_or}
 use lib.Seq.{length-paste, paste, paste-suc, paste-zero}
 use Rattle.texts.proofs.Writing.{pasted}
@@ -24,14 +23,13 @@ bounds-out-at c =
     )
 
 pub loop-i-preserved : goal.loop-i-preserved
-loop-i-preserved c =
-    (
-      omega arith,
-      ap (λ z. set z (c.args.at + c.loop-i.i) (get_or c.args.word.now c.loop-i.i 0)) c.loop-i.invariant.1
-          ∙ (paste-suc c.args.out.now c.args.at c.args.word.now c.loop-i.i 0 (omega arith)
-          c.loop-i-test.true
-          ∙ ap (λ k. paste c.args.out.now c.args.at c.args.word.now k) (sym (add-one c.loop-i.i))),
-    )
+loop-i-preserved c = (
+  omega arith,
+  ap (λ z. set z (c.args.at + c.loop-i.i) (get_or c.args.word.now c.loop-i.i 0)) c.loop-i.invariant.1
+      ∙ (paste-suc c.args.out.now c.args.at c.args.word.now c.loop-i.i 0 (omega arith)
+      c.loop-i-test.true
+      ∙ ap (λ k. paste c.args.out.now c.args.at c.args.word.now k) (sym (add-one c.loop-i.i))),
+)
 
 pub shape_of-out : goal.shape_of-out
 shape_of-out c =

@@ -1,6 +1,5 @@
 -- `write_line` appends its five parts, one behind the other. Assumes nothing.
 use native.Mathlib.Omega.{arith}
-use borrow.Author.Rules.{rules}
 use Rattle.texts.proofs.Writing.{joined, line_size}
 use Rattle.texts.proofs.write_line.Goals as goal
 

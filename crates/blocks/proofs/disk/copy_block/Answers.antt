@@ -5,26 +5,24 @@
 -- `copy_block` stores the bytes of the one block in the other. Each turn stores one byte more, and the byte that it
 -- reads is still as it was. Assumes nothing.
 use mathlib.Core.Path.{◌∙◌, ◌≡◌, refl}
-use Prim.Native.Nat.{◌*◌, ◌-◌, ◌≤◌}
+use Prim.Native.Nat.{◌-◌}
 use native.Mathlib.Omega.{arith}
-use lib.ListN.{length, length-set}
-use borrow.Author.Rules.{rules}
-use Rattle.blocks.proofs.DiskStoring.{source_kept, storing, storing-all, storing_more, storing-none}
+use lib.ListN.{length-set}
+use Rattle.blocks.proofs.DiskStoring.{source_kept, storing-all, storing_more, storing-none}
 use Rattle.manager.proofs.Blocks.{block-length}
 use Rattle.manager.specs.Disk.{block}
 use Rattle.section.specs.Limits.{block_size}
 use Rattle.blocks.proofs.disk.copy_block.Goals as goal
 
 pub loop-i-init : goal.loop-i-init
-loop-i-init c =
-    (
-      refl,
-      refl,
-      omega arith,
-      refl,
-      storing-none c.args.disk.now (block c.args.disk.now c.args.from) c.args.to c.requires.has_block_2
-          (block-length c.args.disk.now c.args.from c.requires.has_block),
-    )
+loop-i-init c = (
+  refl,
+  refl,
+  omega arith,
+  refl,
+  storing-none c.args.disk.now (block c.args.disk.now c.args.from) c.args.to c.requires.has_block_2
+      (block-length c.args.disk.now c.args.from c.requires.has_block),
+)
 
 pub loop-i-preserved : goal.loop-i-preserved
 loop-i-preserved c =

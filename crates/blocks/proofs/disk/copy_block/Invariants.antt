@@ -4,13 +4,10 @@
 -- reads is still as it was. Assumes nothing.
 -- `copy_block` stores the bytes of the one block in the other. Each turn stores one byte more, and the byte that it
 -- reads is still as it was. Assumes nothing.
-use mathlib.Core.Path.{◌∙◌, ◌≡◌, refl}
+use mathlib.Core.Path.{◌≡◌}
 use Prim.Native.Nat.{◌*◌, ◌-◌, ◌≤◌}
-use native.Mathlib.Omega.{arith}
-use lib.ListN.{length, length-set}
-use borrow.Author.Rules.{rules}
-use Rattle.blocks.proofs.DiskStoring.{source_kept, storing, storing-all, storing_more, storing-none}
-use Rattle.manager.proofs.Blocks.{block-length}
+use lib.ListN.{length}
+use Rattle.blocks.proofs.DiskStoring.{storing}
 use Rattle.manager.specs.Disk.{block}
 use Rattle.section.specs.Limits.{block_size}
 use Rattle.blocks.proofs.disk.copy_block.Given as goal

@@ -1,12 +1,8 @@
 -- `copy_run` makes the copies of a run in order and counts them: what is left of the run gives the disk that all of
 -- it gives. Assumes nothing.
-use mathlib.Core.Path.{◌∙◌, ◌≡◌, ap, refl}
+use mathlib.Core.Path.{◌≡◌}
 use Prim.Native.Nat.{◌+◌, ◌-◌, ◌≤◌}
-use native.Mathlib.Omega.{arith}
 use lib.ListN.{length}
-use borrow.Author.Rules.{rules}
-use Rattle.layout.proofs.MergeKeeps.{length-copy_run}
-use Rattle.blocks.proofs.DiskCopies.{copies-end, copies_more, copies_start}
 use Rattle.layout.specs.Removing.{copy_run}
 use Rattle.manager.specs.Disk.{run_copies}
 use Rattle.blocks.proofs.disk.copy_run.Given as goal

@@ -1,26 +1,24 @@
 -- `store_block` stores a block of the one list in a block of the other. Each turn stores one byte more. Assumes
 -- nothing.
 use mathlib.Core.Path.{◌∙◌, ◌≡◌, refl}
-use Prim.Native.Nat.{◌*◌, ◌-◌, ◌≤◌}
+use Prim.Native.Nat.{◌-◌}
 use native.Mathlib.Omega.{arith}
-use lib.ListN.{length, length-set}
-use borrow.Author.Rules.{rules}
-use Rattle.blocks.proofs.DiskStoring.{get_d_block, storing, storing-all, storing_more, storing-none}
+use lib.ListN.{length-set}
+use Rattle.blocks.proofs.DiskStoring.{get_d_block, storing-all, storing_more, storing-none}
 use Rattle.manager.proofs.Blocks.{block-length}
 use Rattle.manager.specs.Disk.{block}
 use Rattle.section.specs.Limits.{block_size}
 use Rattle.blocks.proofs.disk.store_block.Goals as goal
 
 pub loop-i-init : goal.loop-i-init
-loop-i-init c =
-    (
-      refl,
-      refl,
-      omega arith,
-      refl,
-      storing-none c.args.target.now (block c.args.source.now c.args.from) c.args.to c.requires.has_block
-          (block-length c.args.source.now c.args.from c.requires.has_block_2),
-    )
+loop-i-init c = (
+  refl,
+  refl,
+  omega arith,
+  refl,
+  storing-none c.args.target.now (block c.args.source.now c.args.from) c.args.to c.requires.has_block
+      (block-length c.args.source.now c.args.from c.requires.has_block_2),
+)
 
 pub loop-i-preserved : goal.loop-i-preserved
 loop-i-preserved c =

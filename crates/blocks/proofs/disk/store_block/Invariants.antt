@@ -1,12 +1,9 @@
 -- `store_block` stores a block of the one list in a block of the other. Each turn stores one byte more. Assumes
 -- nothing.
-use mathlib.Core.Path.{◌∙◌, ◌≡◌, refl}
+use mathlib.Core.Path.{◌≡◌}
 use Prim.Native.Nat.{◌*◌, ◌-◌, ◌≤◌}
-use native.Mathlib.Omega.{arith}
-use lib.ListN.{length, length-set}
-use borrow.Author.Rules.{rules}
-use Rattle.blocks.proofs.DiskStoring.{get_d_block, storing, storing-all, storing_more, storing-none}
-use Rattle.manager.proofs.Blocks.{block-length}
+use lib.ListN.{length}
+use Rattle.blocks.proofs.DiskStoring.{storing}
 use Rattle.manager.specs.Disk.{block}
 use Rattle.section.specs.Limits.{block_size}
 use Rattle.blocks.proofs.disk.store_block.Given as goal

@@ -1,23 +1,13 @@
 -- `write_pages` writes the content's pages piece by piece. The pieces left, from the next page on, give the same
 -- disk as all pieces. Assumes nothing.
 use Rattle.piece.specs.Packed.{seen}
-use Rattle.piece.proofs.Seen.{seen-length, seen_get}
-use Rattle.section.specs.Sections.{length_of}
-use Rattle.section.specs.declared.Section.{Section}
-use mathlib.Core.List.{◌∷◌}
-use mathlib.Core.Path.{◌∙◌, ◌≡◌, ap, refl, sym, subst}
+use mathlib.Core.Path.{◌≡◌}
 use Prim.Native.Nat.{◌*◌, ◌+◌, ◌-◌, ◌≤◌}
-use native.Mathlib.Omega.{arith}
 use lib.ListN.{drop, length, take}
-use borrow.Author.Rules.{rules}
-use Rattle.blocks.proofs.DiskPieces.{no_section, piece_fits}
-use Rattle.blocks.proofs.DiskWriting.{left_all, left_end, left_more, left_over}
+use Rattle.blocks.proofs.DiskWriting.{left_over}
 use Rattle.layout.specs.Layout.{block_count}
-use Rattle.section.specs.Heights.{NoHigher}
 use Rattle.section.specs.Limits.{block_size}
-use Rattle.piece_lists.proofs.Arrays.{ahead, behind, length_of_mapped}
-use Rattle.piece_lists.specs.Few.{list_of, piece_places}
-use Rattle.pieces.proofs.PieceCounts.{count_here}
+use Rattle.piece_lists.specs.Few.{piece_places}
 use Rattle.blocks.proofs.disk.write_pages.Given as goal
 
 abbrev pub invariant-loop-j : goal.invariant-loop-j

@@ -1,11 +1,9 @@
 -- `write_run` writes pages one after another to a run of blocks: what is left to write gives the disk that all of
 -- it gives. Assumes nothing.
-use mathlib.Core.Path.{◌∙◌, ◌≡◌, ap, refl}
+use mathlib.Core.Path.{◌≡◌}
 use Prim.Native.Nat.{◌+◌, ◌-◌, ◌≤◌}
-use native.Mathlib.Omega.{arith}
 use lib.ListN.{length}
-use borrow.Author.Rules.{rules}
-use Rattle.blocks.proofs.DiskWriting.{writing, writing-end, writing_more, writing_start}
+use Rattle.blocks.proofs.DiskWriting.{writing}
 use Rattle.blocks.proofs.disk.write_run.Given as goal
 
 abbrev pub invariant-loop-i : goal.invariant-loop-i

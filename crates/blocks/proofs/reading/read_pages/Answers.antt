@@ -1,12 +1,11 @@
 -- `read_pages` fills the output page by page. The pages read so far stand at its start, and the rest is as it was.
 -- Assumes nothing.
 use mathlib.Core.Path.{◌∙◌, ◌≡◌, refl, subst, sym}
-use Prim.Native.Nat.{◌*◌, ◌+◌, ◌-◌, ◌<◌, ◌≤◌}
+use Prim.Native.Nat.{◌*◌, ◌+◌, ◌-◌, ◌<◌}
 use native.Mathlib.Omega.{arith}
 use lib.ListN.{length}
-use borrow.Author.Rules.{rules}
 use Rattle.blocks.proofs.DiskPieces.{entry_most, entry_wider, page_on_disk}
-use Rattle.blocks.proofs.DiskReading.{Filled, filled-end, filled_more, filled_start, page-bytes, page_there, pages_from}
+use Rattle.blocks.proofs.DiskReading.{filled-end, filled_more, filled_start, page-bytes, page_there, pages_from}
 use Rattle.blocks.proofs.RunSteps.{run_follows, run_start}
 use Rattle.blocks.specs.Runs.{Follows}
 use Rattle.layout.specs.Layout.{block_count, blocks_of}
@@ -17,14 +16,13 @@ use Rattle.table.specs.Tables.{pieces_in}
 use Rattle.blocks.proofs.reading.read_pages.Goals as goal
 
 pub loop-i-init : goal.loop-i-init
-loop-i-init c =
-    (
-      refl,
-      omega arith,
-      refl,
-      filled_start (pages_from c.args.disk.now (pieces_in c.args.e) c.args.first) c.args.out.now,
-      run_start (blocks_of (pieces_in c.args.e)) (c.args.first + 0),
-    )
+loop-i-init c = (
+  refl,
+  omega arith,
+  refl,
+  filled_start (pages_from c.args.disk.now (pieces_in c.args.e) c.args.first) c.args.out.now,
+  run_start (blocks_of (pieces_in c.args.e)) (c.args.first + 0),
+)
 
 pub overflow_add-first : goal.overflow_add-first
 overflow_add-first c =

@@ -1,18 +1,12 @@
 -- `read_pages` fills the output page by page. The pages read so far stand at its start, and the rest is as it was.
 -- Assumes nothing.
-use mathlib.Core.Path.{◌∙◌, ◌≡◌, refl, subst, sym}
-use Prim.Native.Nat.{◌*◌, ◌+◌, ◌-◌, ◌<◌, ◌≤◌}
-use native.Mathlib.Omega.{arith}
+use mathlib.Core.Path.{◌≡◌}
+use Prim.Native.Nat.{◌+◌, ◌-◌, ◌≤◌}
 use lib.ListN.{length}
-use borrow.Author.Rules.{rules}
-use Rattle.blocks.proofs.DiskPieces.{entry_most, entry_wider, page_on_disk}
-use Rattle.blocks.proofs.DiskReading.{Filled, filled-end, filled_more, filled_start, page-bytes, page_there, pages_from}
-use Rattle.blocks.proofs.RunSteps.{run_follows, run_start}
+use Rattle.blocks.proofs.DiskReading.{Filled, pages_from}
 use Rattle.blocks.specs.Runs.{Follows}
-use Rattle.layout.specs.Layout.{block_count, blocks_of}
-use Rattle.manager.proofs.Blocks.{block-length}
-use Rattle.manager.specs.Disk.{block, page_count}
-use Rattle.section.specs.Limits.{block_size, greatest_disk}
+use Rattle.layout.specs.Layout.{blocks_of}
+use Rattle.manager.specs.Disk.{page_count}
 use Rattle.table.specs.Tables.{pieces_in}
 use Rattle.blocks.proofs.reading.read_pages.Given as goal
 

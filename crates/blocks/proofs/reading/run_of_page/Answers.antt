@@ -5,13 +5,12 @@ use Rattle.piece.proofs.Seen.{seen-length, seen_get}
 use Rattle.section.specs.Sections.{length_of}
 use Rattle.section.specs.declared.Section.{Section}
 use mathlib.Core.Path.{◌∙◌, ◌≡◌, refl, ap, subst, sym}
-use Prim.Native.Nat.{◌*◌, ◌-◌, ◌≤◌, ◌+◌, ℕ}
+use Prim.Native.Nat.{◌*◌, ◌-◌, ◌+◌}
 use native.Mathlib.Omega.{arith}
-use lib.ListN.{drop, get_or, length, take}
+use lib.ListN.{length}
 use borrow.Author.Rules.{rules}
 use Rattle.blocks.proofs.DiskPieces.{piece_fits, run_here, run_later, run_none}
 use Rattle.blocks.proofs.RunSteps.{run_is}
-use Rattle.layout.specs.Layout.{blocks_of}
 use Rattle.section.specs.Heights.{NoHigher}
 use Rattle.section.specs.Limits.{block_size, greatest_disk}
 use Rattle.piece_lists.proofs.Arrays.{length_of_mapped}

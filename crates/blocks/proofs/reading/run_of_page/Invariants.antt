@@ -1,21 +1,11 @@
 -- `run_of_page` goes through the pieces to the one that has the page. Among the pieces left, the page that is
 -- left to pass is the page that is asked for. Assumes nothing.
 use Rattle.piece.specs.Packed.{seen}
-use Rattle.piece.proofs.Seen.{seen-length, seen_get}
-use Rattle.section.specs.Sections.{length_of}
-use Rattle.section.specs.declared.Section.{Section}
-use mathlib.Core.Path.{◌∙◌, ◌≡◌, refl, ap, subst, sym}
-use Prim.Native.Nat.{◌*◌, ◌-◌, ◌≤◌, ◌+◌, ℕ}
-use native.Mathlib.Omega.{arith}
+use mathlib.Core.Path.{◌≡◌}
+use Prim.Native.Nat.{◌-◌, ◌≤◌, ◌+◌, ℕ}
 use lib.ListN.{drop, get_or, length, take}
-use borrow.Author.Rules.{rules}
-use Rattle.blocks.proofs.DiskPieces.{piece_fits, run_here, run_later, run_none}
-use Rattle.blocks.proofs.RunSteps.{run_is}
 use Rattle.layout.specs.Layout.{blocks_of}
-use Rattle.section.specs.Heights.{NoHigher}
-use Rattle.section.specs.Limits.{block_size, greatest_disk}
-use Rattle.piece_lists.proofs.Arrays.{length_of_mapped}
-use Rattle.piece_lists.specs.Few.{list_of, piece_places}
+use Rattle.piece_lists.specs.Few.{piece_places}
 use Rattle.blocks.proofs.reading.run_of_page.Given as goal
 
 abbrev pub invariant-loop-j : goal.invariant-loop-j

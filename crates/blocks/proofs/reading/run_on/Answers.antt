@@ -1,5 +1,4 @@
 -- `run_on` meets its contract: what is left of the run, or the run that is found. Assumes nothing.
-use borrow.Author.Rules.{rules}
 use Rattle.blocks.proofs.RunSteps.{run_more}
 use Rattle.blocks.proofs.reading.run_on.Goals as goal
 

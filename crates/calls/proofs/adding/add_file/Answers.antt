@@ -1,7 +1,6 @@
 -- `calls::adding::add_file` meets its contract: one law for each refusal, and one for the answer. Assumes nothing.
 use mathlib.Core.Path.{ap}
 use native.Mathlib.Omega.{arith}
-use borrow.Author.Rules.{rules}
 use Rattle.layout.specs.Layout.{is_found}
 use Rattle.looking.proofs.LookedUp.{looked_first, looked_found, looked_fresh, opened_rises}
 use Rattle.calls.proofs.Refusing.{made_as}
@@ -93,15 +92,15 @@ returns c =
     let k = c.place_file-table in
     let n = c.free_in-free in
     let can =
-        let p = c.look_up-looked in
-        let e = c.in_default.is in
-        can_add c.args.t c.requires.opened c.args.id c.args.content.now c.args.disk.now c.requires.disk_len.0
-        (λ z. omega (arith, c.requires.disk_len.1))
-        (looked_fresh c.args.t c.requires.opened c.args.id p.result p.ensures e)
-        c.if-content-eq0.false
-        c.if-content-ne0.false
-        (omega (arith, c.if-t-ge-MOST_FILES.false))
-        n.result n.ensures
-        (omega (arith, c.if-free-pages.false))
-        (omega (arith, c.ranges.id.fits)) in
+    let p = c.look_up-looked in
+    let e = c.in_default.is in
+    can_add c.args.t c.requires.opened c.args.id c.args.content.now c.args.disk.now c.requires.disk_len.0
+    (λ z. omega (arith, c.requires.disk_len.1))
+    (looked_fresh c.args.t c.requires.opened c.args.id p.result p.ensures e)
+    c.if-content-eq0.false
+    c.if-content-ne0.false
+    (omega (arith, c.if-t-ge-MOST_FILES.false))
+    n.result n.ensures
+    (omega (arith, c.if-free-pages.false))
+    (omega (arith, c.ranges.id.fits)) in
     answer-add c.args.t c.args.id _ c.args.content.now c.args.disk.now _ k.result can k.ensures

@@ -1,5 +1,4 @@
 -- `calls::adding::add_in` meets its contract: the first two conditions, then what `add_file` makes. Assumes nothing.
-use borrow.Author.Rules.{rules}
 use Rattle.calls.proofs.Refusing.{made_as}
 use Rattle.calls.proofs.AddJudged.{refuse-disk, refuse-zero}
 use Rattle.calls.proofs.adding.add_in.Goals as goal

@@ -1,6 +1,5 @@
 -- `calls::adding::place_file` meets its contract: the pieces that it lays are those that the definition allocates.
 -- Assumes nothing.
-use borrow.Author.Rules.{rules}
 use Rattle.looking.proofs.FreeSum.{opened_stocked}
 use Rattle.calls.proofs.Placing.{place_placed, place_writes}
 use Rattle.calls.proofs.adding.place_file.Goals as goal

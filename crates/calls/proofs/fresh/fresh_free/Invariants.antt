@@ -1,16 +1,13 @@
 -- `calls::fresh::fresh_free` meets its contract. The loop's invariant: the pieces so far and those for the ones
 -- below height `h` are all, and there is room for the pieces below `h`. A turn adds the piece of its height if the
 -- quotient by the height's length is odd. Assumes nothing.
-use mathlib.Core.Path.{◌∙◌, ◌≡◌, ap, refl, sym}
-use Prim.Native.Nat.{◌%◌, ◌*◌, ◌+◌, ◌-◌, ◌/◌, ◌^◌, ◌≤◌, suc, ℕ}
-use native.Mathlib.Nat.{mod-le}
-use native.Mathlib.Omega.{arith}
-use lib.ListN.{length, length-set}
-use borrow.Author.Rules.{rules}
+use mathlib.Core.Path.{◌≡◌}
+use Prim.Native.Nat.{◌+◌, ◌-◌, ◌≤◌}
+use lib.ListN.{length}
 use Rattle.section.specs.Limits.{height_count}
 use Rattle.layout.specs.Layout.{pieces_from}
-use Rattle.piece_lists.specs.Few.{list_of, piece_places}
-use Rattle.calls.proofs.FreshPieces.{pieces_end, pieces_push, pieces_skip, pieces_start, pieces_with}
+use Rattle.piece_lists.specs.Few.{piece_places}
+use Rattle.calls.proofs.FreshPieces.{pieces_with}
 use Rattle.calls.proofs.fresh.fresh_free.Given as goal
 
 abbrev pub invariant-loop-h : goal.invariant-loop-h

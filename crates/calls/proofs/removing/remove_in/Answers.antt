@@ -1,6 +1,5 @@
 -- `calls::removing::remove_in` meets its contract: the refusals by their conditions, then the file is taken out.
 -- Assumes nothing.
-use borrow.Author.Rules.{rules}
 use Rattle.looking.proofs.LookedUp.{looked_first, looked_missing, opened_rises}
 use Rattle.calls.proofs.Refusing.{made_as}
 use Rattle.calls.proofs.Removals.{remove_can_take, remove-id-zero, remove_makes, remove_missing, remove_wrong_disk}

@@ -1,5 +1,4 @@
 -- `calls::removing::take_out` meets its contract: the release, and the merges after it. Assumes nothing.
-use borrow.Author.Rules.{rules}
 use Rattle.calls.proofs.TakenOut.{release-room, released_can_settle, taken_out}
 use Rattle.calls.proofs.removing.take_out.Goals as goal
 

@@ -1,6 +1,5 @@
 -- `calls::replacing::exchange` meets its contract: the file is taken out, and the new one is placed on what is left.
 -- Assumes nothing.
-use borrow.Author.Rules.{rules}
 use Rattle.calls.proofs.Exchanged.{exchange_can_add, exchange_can_take, exchange_makes}
 use Rattle.calls.proofs.replacing.exchange.Goals as goal
 

@@ -2,7 +2,6 @@
 -- nothing.
 use mathlib.Core.Path.{◌∙◌, ap}
 use native.Mathlib.Omega.{arith}
-use borrow.Author.Rules.{rules}
 use Rattle.quality.specs.Letters.{rank_of}
 use Rattle.calls.proofs.ContentLetter.{letter_in_content, letter_of_content}
 use Rattle.calls.proofs.Refusing.{made_as}

@@ -1,7 +1,6 @@
 -- `calls::replacing::replace_in` meets its contract: the first conditions, then what `replace_found` makes. Assumes
 -- nothing.
 use native.Mathlib.Omega.{arith}
-use borrow.Author.Rules.{rules}
 use Rattle.looking.proofs.LookChecks.{empty-unpaged, part_unpaged, whole_paged}
 use Rattle.looking.proofs.LookedUp.{looked_first, looked_found, looked_missing, opened_rises}
 use Rattle.calls.proofs.Refusing.{made_as}

@@ -1,17 +1,13 @@
 -- `write_ids` writes the ids, then zeros: the places below `i` have what they are to have. Assumes nothing.
-use mathlib.Core.Logic.{inl, inr}
 use mathlib.Core.Path.{◌∙◌, ◌≡◌, ap, sym}
-use Prim.Native.Nat.{◌+◌, ◌-◌, ◌≤◌, ℕ}
+use Prim.Native.Nat.{◌+◌, ◌-◌, ◌≤◌}
 use native.Mathlib.Omega.{arith}
-use lib.ListN.{get_or, length, length-set, set, take}
+use lib.ListN.{get_or, length-set, set, take}
 use lib.Seq.{take_all}
-use borrow.Author.Rules.{rules}
-use Rattle.section.specs.Limits.{most_files}
 use Rattle.layout.specs.Sound.{greatest_id}
 use Rattle.piece_lists.proofs.Arrays.{copied_more}
 use Rattle.manager.specs.Outcomes.{then_zeros}
-use Rattle.choosing.specs.Listing.{Listable, ids_in}
-use Rattle.choosing.specs.declared.Choices.{Choices}
+use Rattle.choosing.specs.Listing.{ids_in}
 use Rattle.choosing.proofs.IdPlaces.{id-at, id_fits, places-length, zero-at}
 use Rattle.choosing.proofs.listing.write_ids.Goals as goal
 use Rattle.choosing.proofs.listing.write_ids.Goals.{else-i-m, then-i-m}

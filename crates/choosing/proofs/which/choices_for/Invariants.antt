@@ -1,11 +1,7 @@
 -- `choices_for` chooses from the last file down: after each turn the files from `j` on are chosen from. Assumes
 -- nothing.
-use mathlib.Core.Path.{refl}
 use Prim.Native.Nat.{◌-◌}
-use native.Mathlib.Omega.{arith}
-use borrow.Author.Rules.{rules}
-use Rattle.table.specs.Tables.{layout_of}
-use Rattle.choosing.proofs.ChoosingSteps.{Choosing, choosing_end, choosing_in, choosing_out, choosing_start, chosen_low, chosen_stored}
+use Rattle.choosing.proofs.ChoosingSteps.{Choosing}
 use Rattle.choosing.proofs.which.choices_for.Given as goal
 
 abbrev pub invariant-loop-j : goal.invariant-loop-j

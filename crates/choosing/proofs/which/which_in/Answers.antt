@@ -1,7 +1,6 @@
 -- `which_in` meets its contract: the conditions in order, then what fits already, then the files. Assumes nothing.
 use mathlib.Core.Path.{◌∙◌, ap}
 use native.Mathlib.Omega.{arith}
-use borrow.Author.Rules.{rules}
 use Rattle.manager.specs.Conditions.{answered}
 use Rattle.manager.specs.Outcomes.{then_zeros}
 use Rattle.table.specs.Tables.{layout_of}

@@ -1,6 +1,5 @@
 -- `decoder::entries::is_file` meets its contract: its tests are the definition's. Assumes nothing.
 use mathlib.Core.Path.{◌∙◌, sym}
-use borrow.Author.Rules.{rules}
 use Rattle.decoder.proofs.Entering.{no_blocks, no_id, order_left, other_sum}
 use Rattle.decoder.proofs.entries.is_file.Goals as goal
 

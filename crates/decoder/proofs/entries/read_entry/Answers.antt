@@ -1,7 +1,6 @@
 -- `decoder::entries::read_entry` meets its contract: a file that a sound layout can have, or none. Assumes nothing.
 use mathlib.Core.Path.{◌∙◌, sym}
 use native.Mathlib.Omega.{arith}
-use borrow.Author.Rules.{rules}
 use borrow.Author.Tests.{not-true, not-false}
 use Rattle.decoder.proofs.Places.{ones-fit}
 use Rattle.decoder.proofs.Entering.{many_pieces, refused_entry, short_entry, some_entry, unread-entry}

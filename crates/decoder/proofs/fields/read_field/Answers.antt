@@ -1,13 +1,9 @@
 -- `decoder::fields::read_field` meets its contract: byte by byte the number of the field, for any width, and at
 -- once one of 2 bytes. Assumes nothing.
 use mathlib.Core.Path.{◌≡◌, ◌∙◌, ap, subst, sym}
-use Prim.Native.Nat.{◌*◌, ◌+◌, ◌-◌, ◌<◌, ◌^◌, ◌≤◌}
+use Prim.Native.Nat.{◌*◌, ◌+◌, ◌-◌, ◌<◌, ◌^◌}
 use native.Mathlib.Omega.{arith}
-use lib.ListN.{drop, length}
-use borrow.Author.Rules.{rules}
-use Rattle.catalogue.specs.Version.{widest_field}
 use Rattle.catalogue.specs.Encoding.{byte_values}
-use Rattle.catalogue.specs.Reading.{read_field}
 use Rattle.decoder.specs.Fields.{FieldAt}
 use Rattle.decoder.proofs.Places.{FieldLeft, field_end, field_more, field_start, three-bytes, value_more}
 use Rattle.decoder.proofs.fields.read_field.Goals as goal

@@ -2,7 +2,6 @@
 -- be a block of a disk. Assumes nothing.
 use mathlib.Core.Path.{◌∙◌, sym}
 use native.Mathlib.Omega.{arith}
-use borrow.Author.Rules.{rules}
 use Rattle.section.proofs.Lengths.{length-of-height}
 use Rattle.decoder.proofs.Places.{no_pair_at, pair_far, pair_none, pair_short, some_pair_at}
 use Rattle.decoder.proofs.fields.read_pair.Goals as goal

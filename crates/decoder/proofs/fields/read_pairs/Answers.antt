@@ -4,31 +4,26 @@ use Rattle.piece.proofs.Seen.{seen-length, seen-set}
 use mathlib.Core.Bool.{true}
 use mathlib.Core.Path.{◌≡◌, ◌∙◌, sym, ap, refl}
 use mathlib.Core.List.{[]}
-use Prim.Native.Nat.{◌+◌, ◌*◌, ◌-◌, ◌≤◌, ◌<◌}
+use Prim.Native.Nat.{◌+◌, ◌-◌, ◌<◌}
 use native.Mathlib.Omega.{arith}
-use lib.ListN.{length, length-set, take, drop}
-use borrow.Author.Rules.{rules}
+use lib.ListN.{length, length-set, take}
 use borrow.Author.Tests.{not-true, not-false}
-use Rattle.catalogue.specs.Version.{widest_field}
-use Rattle.section.specs.Limits.{greatest_disk}
 use Rattle.section.specs.Sections.{length_of}
 use Rattle.layout.specs.Layout.{block_count}
-use Rattle.piece_lists.specs.Few.{piece_places}
-use Rattle.decoder.proofs.Runs.{PairsLeft, Left, left_start, left_more, left_bad, left_end, no_pairs-at, some_pairs_at, sum_pushed}
+use Rattle.decoder.proofs.Runs.{Left, left_start, left_more, left_bad, left_end, no_pairs-at, some_pairs_at, sum_pushed}
 use Rattle.decoder.proofs.fields.read_pairs.Goals as goal
 
 pub loop-i-init : goal.loop-i-init
-loop-i-init c =
-    (
-      omega arith,
-      c.requires.1,
-      omega arith,
-      refl,
-      omega arith,
-      refl,
-      left_start c.args.width c.args.s.now c.args.at c.args.count [],
-      c.requires.2,
-    )
+loop-i-init c = (
+  omega arith,
+  c.requires.1,
+  omega arith,
+  refl,
+  omega arith,
+  refl,
+  left_start c.args.width c.args.s.now c.args.at c.args.count [],
+  c.requires.2,
+)
 
 pub returns-then-not-pair : goal.returns-then-not-pair
 returns-then-not-pair c =

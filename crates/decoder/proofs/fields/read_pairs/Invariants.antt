@@ -1,20 +1,13 @@
 -- `decoder::fields::read_pairs` meets its contract: the pairs so far, before those left to read. Assumes nothing.
-use Rattle.piece.specs.Packed.{seen, section_in}
-use Rattle.piece.proofs.Seen.{seen-length, seen-set}
-use mathlib.Core.Bool.{true}
-use mathlib.Core.Path.{◌≡◌, ◌∙◌, sym, ap, refl}
-use mathlib.Core.List.{[]}
-use Prim.Native.Nat.{◌+◌, ◌*◌, ◌-◌, ◌≤◌, ◌<◌}
-use native.Mathlib.Omega.{arith}
-use lib.ListN.{length, length-set, take, drop}
-use borrow.Author.Rules.{rules}
-use borrow.Author.Tests.{not-true, not-false}
+use Rattle.piece.specs.Packed.{seen}
+use mathlib.Core.Path.{◌≡◌}
+use Prim.Native.Nat.{◌*◌, ◌-◌, ◌≤◌}
+use lib.ListN.{length, take, drop}
 use Rattle.catalogue.specs.Version.{widest_field}
 use Rattle.section.specs.Limits.{greatest_disk}
-use Rattle.section.specs.Sections.{length_of}
 use Rattle.layout.specs.Layout.{block_count}
 use Rattle.piece_lists.specs.Few.{piece_places}
-use Rattle.decoder.proofs.Runs.{PairsLeft, Left, left_start, left_more, left_bad, left_end, no_pairs-at, some_pairs_at, sum_pushed}
+use Rattle.decoder.proofs.Runs.{PairsLeft, Left}
 use Rattle.decoder.proofs.fields.read_pairs.Given as goal
 
 abbrev pub invariant-loop-i : goal.invariant-loop-i

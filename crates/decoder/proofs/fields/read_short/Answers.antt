@@ -3,7 +3,6 @@ use mathlib.Core.Path.{◌≡◌, ◌∙◌, ap, sym}
 use Prim.Native.Nat.{◌*◌, ◌+◌}
 use native.Mathlib.Omega.{arith}
 use lib.ListN.{drop, get_or}
-use borrow.Author.Rules.{rules}
 use Rattle.catalogue.specs.Reading.{got}
 use Rattle.catalogue.specs.Version.{short_field}
 use Rattle.decoder.proofs.Places.{field_end, field_more, field_start}

@@ -1,7 +1,6 @@
 -- `decoder::tables::no_table` meets its contract: the empty table is within its arrays. Assumes nothing.
 use mathlib.Core.Path.{refl}
 use native.Mathlib.Omega.{arith}
-use borrow.Author.Rules.{rules}
 use Rattle.section.specs.Limits.{most_files}
 use Rattle.piece_lists.proofs.EachItem.{each_replicate}
 use Rattle.free_pieces.specs.Free.{free_of}

@@ -1,16 +1,13 @@
 -- `decoder::tables::read_body` meets its contract: the files so far, before those left to read, and then the table.
 -- Assumes nothing.
 use mathlib.Core.Path.{◌≡◌, refl}
-use Prim.Native.Nat.{◌-◌, ◌≤◌}
+use Prim.Native.Nat.{◌-◌}
 use native.Mathlib.Omega.{arith}
 use lib.Count.{ones-le}
-use lib.ListN.{length}
-use borrow.Author.Rules.{rules}
 use borrow.Author.Tests.{not-true, not-false}
-use Rattle.catalogue.specs.Version.{widest_field}
-use Rattle.section.specs.Limits.{most_files, large_catalogue}
+use Rattle.section.specs.Limits.{most_files}
 use Rattle.piece_lists.proofs.EachItem.{each_replicate}
-use Rattle.decoder.proofs.Filled.{FilesAt, filled_bad, filled_inside, filled_more, filled_start}
+use Rattle.decoder.proofs.Filled.{filled_bad, filled_inside, filled_more, filled_start}
 use Rattle.decoder.proofs.Tabled.{table_at, unread-at, unread-free, unread_many}
 use Rattle.decoder.proofs.Whole.{bad_files}
 use Rattle.decoder.proofs.tables.read_body.Goals as goal
@@ -22,13 +19,12 @@ pub overflow_add-at-2 : goal.overflow_add-at-2
 overflow_add-at-2 c = omega (arith, c.requires.0.width)
 
 pub loop-i-init : goal.loop-i-init
-loop-i-init c =
-    (
-      omega (arith, c.requires.0.most_bytes, c.requires.1),
-      (c.requires.2.few, c.requires.0.width),
-      filled_start _ _ _ _ (omega (arith, c.requires.0.header, c.requires.1)) refl
-          (each_replicate most_files c.no_entry-blank.result (omega (arith, c.no_entry-blank.ensures.1))),
-    )
+loop-i-init c = (
+  omega (arith, c.requires.0.most_bytes, c.requires.1),
+  (c.requires.2.few, c.requires.0.width),
+  filled_start _ _ _ _ (omega (arith, c.requires.0.header, c.requires.1)) refl
+      (each_replicate most_files c.no_entry-blank.result (omega (arith, c.no_entry-blank.ensures.1))),
+)
 
 pub returns-then-not-read : goal.returns-then-not-read
 returns-then-not-read c =

@@ -1,18 +1,10 @@
 -- `decoder::tables::read_body` meets its contract: the files so far, before those left to read, and then the table.
 -- Assumes nothing.
-use mathlib.Core.Path.{◌≡◌, refl}
 use Prim.Native.Nat.{◌-◌, ◌≤◌}
-use native.Mathlib.Omega.{arith}
-use lib.Count.{ones-le}
 use lib.ListN.{length}
-use borrow.Author.Rules.{rules}
-use borrow.Author.Tests.{not-true, not-false}
 use Rattle.catalogue.specs.Version.{widest_field}
 use Rattle.section.specs.Limits.{most_files, large_catalogue}
-use Rattle.piece_lists.proofs.EachItem.{each_replicate}
-use Rattle.decoder.proofs.Filled.{FilesAt, filled_bad, filled_inside, filled_more, filled_start}
-use Rattle.decoder.proofs.Tabled.{table_at, unread-at, unread-free, unread_many}
-use Rattle.decoder.proofs.Whole.{bad_files}
+use Rattle.decoder.proofs.Filled.{FilesAt}
 use Rattle.decoder.proofs.tables.read_body.Given as goal
 
 abbrev pub invariant-loop-i : goal.invariant-loop-i

@@ -2,7 +2,6 @@
 use native.Mathlib.Omega.{arith}
 use Rattle.decoder.proofs.Whole.{header_of, large-header, many_files, wrong_version}
 use Rattle.decoder.proofs.Tabled.{unread-at}
-use borrow.Author.Rules.{rules}
 use Rattle.decoder.proofs.tables.read_table.Goals as goal
 
 pub returns-then-number-version : goal.returns-then-number-version

@@ -1,13 +1,9 @@
 -- `decoder::zeros::is_zero_from` meets its contract: what is gathered and what is left are zero if all is. Assumes
 -- nothing.
-use mathlib.Core.Bool.{◌&&◌}
-use mathlib.Core.Path.{◌≡◌, ◌∙◌, sym, refl}
-use Prim.Native.Nat.{◌-◌, ◌≤◌}
+use mathlib.Core.Path.{◌∙◌, sym, refl}
+use Prim.Native.Nat.{◌-◌}
 use native.Mathlib.Omega.{arith}
 use lib.Dec.{eqb}
-use lib.ListN.{length, drop}
-use borrow.Author.Rules.{rules}
-use Rattle.decoder.specs.Loading.{all_zero}
 use Rattle.decoder.proofs.ZeroBytes.{zero-end, zero_more}
 use Rattle.decoder.proofs.zeros.is_zero_from.Goals as goal
 

@@ -1,10 +1,8 @@
 -- `encoder::storing::clear` meets its contract: from `at` to `i` stand zero bytes. Assumes nothing.
-use mathlib.Core.List.{◌++◌}
-use mathlib.Core.Path.{◌≡◌, refl}
-use Prim.Native.Nat.{◌-◌, ◌≤◌}
+use mathlib.Core.Path.{refl}
+use Prim.Native.Nat.{◌-◌}
 use native.Mathlib.Omega.{arith}
-use lib.ListN.{length, length-set, replicate, take}
-use borrow.Author.Rules.{rules}
+use lib.ListN.{length, length-set, take}
 use Rattle.encoder.proofs.StoreWritten.{cleared, cleared_more, cleared_none}
 use Rattle.encoder.proofs.storing.clear.Goals as goal
 

@@ -1,11 +1,8 @@
 -- `encoder::storing::clear` meets its contract: from `at` to `i` stand zero bytes. Assumes nothing.
 use mathlib.Core.List.{◌++◌}
-use mathlib.Core.Path.{◌≡◌, refl}
+use mathlib.Core.Path.{◌≡◌}
 use Prim.Native.Nat.{◌-◌, ◌≤◌}
-use native.Mathlib.Omega.{arith}
-use lib.ListN.{length, length-set, replicate, take}
-use borrow.Author.Rules.{rules}
-use Rattle.encoder.proofs.StoreWritten.{cleared, cleared_more, cleared_none}
+use lib.ListN.{length, replicate, take}
 use Rattle.encoder.proofs.storing.clear.Given as goal
 
 abbrev pub invariant-loop-i : goal.invariant-loop-i

@@ -2,9 +2,9 @@
 -- zero bytes. Assumes nothing.
 use mathlib.Core.List.{map}
 use mathlib.Core.Path.{◌≡◌, refl}
-use Prim.Native.Nat.{◌-◌, ◌≤◌}
+use Prim.Native.Nat.{◌-◌}
 use native.Mathlib.Omega.{arith}
-use lib.ListN.{length, take}
+use lib.ListN.{length}
 use borrow.Author.Rules.{rules}
 use Rattle.pieces.proofs.SoundPieces.{files-low, free-low, free-places}
 use Rattle.piece_lists.proofs.Arrays.{length_of_mapped}
@@ -13,7 +13,6 @@ use Rattle.table.specs.Tables.{file_of, files_of, layout_of}
 use Rattle.table.specs.declared.Entry.{Entry}
 use Rattle.catalogue.proofs.Grouping.{entries_bytes-cons, entries_bytes_nil}
 use Rattle.catalogue.specs.Encoding.{entries_bytes, entry_bytes}
-use Rattle.encoder.specs.Store.{Written}
 use Rattle.encoder.proofs.StoreLists.{list_more, list_none, list_room}
 use Rattle.encoder.proofs.StoreTable.{end-room, files_count, files-room, free-room, header-room, stored}
 use Rattle.catalogue.proofs.Roomy.{served}
@@ -101,8 +100,8 @@ write_pairs-end-requires c =
       count_le_piece_places = omega (arith, p.ensures.count, p.ensures.few);
       each = rw p.ensures.list (free-low t c.requires.sized (wide c.requires.one_of.0 c.requires.sound));
       room = rw p.ensures.list
-            (free-room c.args.version c.requires.one_of.0 (layout_of t) t.count k c.requires.sound c.args.cat.now
-            c.requires.one_of.1 h.new.cat h.result h.ensures l.cat l.next w);
+          (free-room c.args.version c.requires.one_of.0 (layout_of t) t.count k c.requires.sound c.args.cat.now
+          c.requires.one_of.1 h.new.cat h.result h.ensures l.cat l.next w);
     }
 
 pub clear-requires : goal.clear-requires

@@ -1,7 +1,6 @@
 -- `encoder::storing::store_fresh` meets its contract: the header, no entry, the free pairs, and zero bytes. Assumes
 -- nothing.
 use native.Mathlib.Omega.{arith}
-use borrow.Author.Rules.{rules}
 use Rattle.piece_lists.specs.Few.{list_of}
 use Rattle.encoder.specs.Store.{no_files}
 use Rattle.encoder.proofs.StoreTable.{end-room, free-room, fresh-low, header-room, no_entries, stored}
@@ -21,8 +20,8 @@ write_pairs-end-requires c =
       count_le_piece_places = c.requires.count_le_piece_places;
       each = fresh-low c.args.version.heights (served c.requires.one_of.0).most_heights n l c.requires.sound;
       room = free-room c.args.version c.requires.one_of.0 (no_files n l) _ (omega arith) c.requires.sound c.args.cat.now
-            c.requires.one_of.1 h.new.cat h.result h.ensures h.new.cat h.result
-            (no_entries c.args.version.width h.new.cat h.result);
+          c.requires.one_of.1 h.new.cat h.result h.ensures h.new.cat h.result
+          (no_entries c.args.version.width h.new.cat h.result);
     }
 
 pub clear-requires : goal.clear-requires

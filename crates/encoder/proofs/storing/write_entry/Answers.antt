@@ -1,6 +1,5 @@
 -- `encoder::storing::write_entry` meets its contract: id, blocks, sorted pairs. Assumes nothing.
 use native.Mathlib.Omega.{arith}
-use borrow.Author.Rules.{rules}
 use Rattle.layout.specs.Layout.{by_first, file_blocks}
 use Rattle.layout.specs.Lists.{sort_by}
 use Rattle.table.specs.Tables.{file_of, pieces_in}
@@ -32,9 +31,9 @@ write_pairs-requires c =
       count_le_piece_places = omega (arith, q.ensures.count, c.requires.low_entry.places);
       each = sorted-low c.args.width e n.result n.ensures.equal q.result q.ensures c.requires.low_entry;
       room = rw q.ensures.list
-            (room_right (big_endian c.args.width (file_blocks (file_of e)))
-            (pairs_bytes c.args.width (sort_by by_first (pieces_in e))) v
-            (entry-room-rest c.args.width e c.requires.room w));
+          (room_right (big_endian c.args.width (file_blocks (file_of e)))
+          (pairs_bytes c.args.width (sort_by by_first (pieces_in e))) v
+          (entry-room-rest c.args.width e c.requires.room w));
     }
 
 pub returns : goal.returns

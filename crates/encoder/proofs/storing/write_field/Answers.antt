@@ -2,11 +2,10 @@
 -- of a field of 2 bytes at once. Assumes nothing.
 use mathlib.Core.Path.{subst, sym}
 use native.Mathlib.Omega.{arith}
-use borrow.Author.Rules.{rules}
 use Rattle.catalogue.proofs.Fields.{big_endian-length}
 use Rattle.catalogue.specs.Encoding.{big_endian}
 use Rattle.encoder.specs.Store.{Room, Written}
-use Rattle.encoder.proofs.StoreWritten.{FieldFrom, field_all, field_more, field_none}
+use Rattle.encoder.proofs.StoreWritten.{field_all, field_more, field_none}
 use Rattle.encoder.proofs.storing.write_field.Goals as goal
 
 pub write_short-requires : goal.write_short-requires

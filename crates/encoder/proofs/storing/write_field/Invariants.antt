@@ -1,12 +1,6 @@
 -- `encoder::storing::write_field` meets its contract: the bytes of the field stand from place `i` on, and those
 -- of a field of 2 bytes at once. Assumes nothing.
-use mathlib.Core.Path.{subst, sym}
-use native.Mathlib.Omega.{arith}
-use borrow.Author.Rules.{rules}
-use Rattle.catalogue.proofs.Fields.{big_endian-length}
-use Rattle.catalogue.specs.Encoding.{big_endian}
-use Rattle.encoder.specs.Store.{Room, Written}
-use Rattle.encoder.proofs.StoreWritten.{FieldFrom, field_all, field_more, field_none}
+use Rattle.encoder.proofs.StoreWritten.{FieldFrom}
 use Rattle.encoder.proofs.storing.write_field.Given as goal
 
 abbrev pub invariant-loop-i : goal.invariant-loop-i

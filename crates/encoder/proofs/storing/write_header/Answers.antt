@@ -1,6 +1,5 @@
 -- `encoder::storing::write_header` meets its contract: version, number of blocks, number of files. Assumes nothing.
 use native.Mathlib.Omega.{arith}
-use borrow.Author.Rules.{rules}
 use Rattle.catalogue.proofs.Fields.{big_endian-length}
 use Rattle.encoder.proofs.StoreTable.{header-length}
 use Rattle.encoder.proofs.StoreWritten.{written_more}

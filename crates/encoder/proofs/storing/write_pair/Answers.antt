@@ -1,6 +1,5 @@
 -- `encoder::storing::write_pair` meets its contract: first block, then length. Assumes nothing.
 use native.Mathlib.Omega.{arith}
-use borrow.Author.Rules.{rules}
 use Rattle.catalogue.proofs.Fields.{big_endian-length}
 use Rattle.catalogue.proofs.Size.{pair_length}
 use Rattle.encoder.proofs.StoreEntry.{pair_written}

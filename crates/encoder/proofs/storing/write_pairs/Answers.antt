@@ -4,9 +4,9 @@ use Rattle.piece.proofs.Seen.{seen-length, seen_get}
 use Rattle.piece_lists.proofs.SeenPlaces.{each_read}
 use Rattle.section.specs.Sections.{section}
 use mathlib.Core.Path.{◌≡◌, refl, subst, sym, ◌∙◌}
-use Prim.Native.Nat.{◌-◌, ◌≤◌}
+use Prim.Native.Nat.{◌-◌}
 use native.Mathlib.Omega.{arith}
-use lib.ListN.{length, take}
+use lib.ListN.{length}
 use borrow.Author.Rules.{rules}
 use Rattle.piece_lists.proofs.Arrays.{length_of_mapped}
 use Rattle.piece_lists.specs.Few.{list_of, piece_places}

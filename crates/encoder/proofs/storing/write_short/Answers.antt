@@ -3,7 +3,6 @@ use mathlib.Core.Path.{◌≡◌, refl, subst}
 use Prim.Native.Nat.{◌%◌, ◌+◌, ◌/◌}
 use native.Mathlib.Omega.{arith}
 use lib.ListN.{length-set, set}
-use borrow.Author.Rules.{rules}
 use Rattle.catalogue.specs.Encoding.{big_endian, byte_values}
 use Rattle.catalogue.specs.Version.{short_field}
 use Rattle.catalogue.proofs.Fields.{big_endian-length}

@@ -1,6 +1,5 @@
 -- `evdisk::changing::evdisk_add` meets its contract: the outcome of the call, its answer as a number. Assumes nothing.
 use mathlib.Core.Path.{◌∙◌, ap, refl}
-use borrow.Author.Rules.{rules}
 use Rattle.manager.proofs.Untouched.{add_no_output}
 use Rattle.evdisk.specs.Codes.{code_of}
 use Rattle.evdisk.proofs.Promising.{as_promised}

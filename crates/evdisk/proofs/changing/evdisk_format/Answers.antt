@@ -1,6 +1,5 @@
 -- `evdisk::changing::evdisk_format` meets its contract: the call's outcome, its answer a number. Assumes nothing.
 use mathlib.Core.Path.{◌∙◌, ap}
-use borrow.Author.Rules.{rules}
 use Rattle.manager.proofs.Untouched.{format_no_output}
 use Rattle.evdisk.specs.Codes.{code_of}
 use Rattle.evdisk.proofs.Promising.{as_promised}

@@ -1,6 +1,5 @@
 -- `evdisk::reading::evdisk_free` meets its contract: the outcome of the call, its answer as a number. Assumes nothing.
 use mathlib.Core.Path.{◌∙◌, ap, refl}
-use borrow.Author.Rules.{rules}
 use Rattle.evdisk.specs.Codes.{code_of}
 use Rattle.evdisk.proofs.reading.evdisk_free.Goals as goal
 

@@ -1,6 +1,5 @@
 -- `evdisk::reading::evdisk_read` meets its contract: the outcome of the call, its answer as a number. Assumes nothing.
 use mathlib.Core.Path.{◌∙◌, ap}
-use borrow.Author.Rules.{rules}
 use Rattle.evdisk.specs.Codes.{code_of}
 use Rattle.evdisk.proofs.reading.evdisk_read.Goals as goal
 
@@ -14,9 +13,9 @@ returns c =
       disk = e.disk;
       output = e.output;
       listed = record {
-                  answer = number;
-                  catalogue = e.catalogue;
-                  disk = e.disk;
-                  output = e.output;
-                };
+        answer = number;
+        catalogue = e.catalogue;
+        disk = e.disk;
+        output = e.output;
+      };
     }

@@ -1,6 +1,5 @@
 -- `evdisk::reading::evdisk_which` meets its contract: the call's outcome, its answer a number. Assumes nothing.
 use mathlib.Core.Path.{◌∙◌, ap, sym}
-use borrow.Author.Rules.{rules}
 use Rattle.manager.proofs.Untouched.{which-without-disk}
 use Rattle.manager.specs.Conditions.{Outcome}
 use Rattle.evdisk.specs.Codes.{code_of}
@@ -15,11 +14,11 @@ returns c =
       catalogue = e.catalogue;
       output = e.output;
       listed = λ disk.
-                  (let w = which-without-disk c.args.n c.args.places.now c.args.cat.now disk in
-                  record {
-                    answer = number ∙ sym (ap (λ (x : Outcome). code_of x.reply) w);
-                    catalogue = sym (ap (λ (x : Outcome). x.catalogue) w);
-                    disk = sym (ap (λ (x : Outcome). x.disk) w);
-                    output = e.output ∙ sym (ap (λ (x : Outcome). x.output) w);
-                  });
+          (let w = which-without-disk c.args.n c.args.places.now c.args.cat.now disk in
+          record {
+            answer = number ∙ sym (ap (λ (x : Outcome). code_of x.reply) w);
+            catalogue = sym (ap (λ (x : Outcome). x.catalogue) w);
+            disk = sym (ap (λ (x : Outcome). x.disk) w);
+            output = e.output ∙ sym (ap (λ (x : Outcome). x.output) w);
+          });
     }

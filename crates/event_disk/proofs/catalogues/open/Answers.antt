@@ -1,6 +1,5 @@
 -- `event_disk::catalogues::open` meets its contract. Assumes nothing.
 use mathlib.Core.Path.{subst, sym}
-use borrow.Author.Rules.{rules}
 use Rattle.catalogue.proofs.Roomy.{served, version_of-one}
 use Rattle.catalogue.specs.Version.{Served}
 use Rattle.event_disk.proofs.Entering.{opens_loaded, opens_wrong}

@@ -19,7 +19,7 @@ store-requires c =
       );
       sized = c.requires.sized;
       sound = subst (λ (v : Version). Sound v.heights (layout_of c.args.r.table)) back
-            (c.requires.rules c.if-r.true);
+          (c.requires.rules c.if-r.true);
     }
 
 pub returns-then-r : goal.returns-then-r
@@ -36,6 +36,6 @@ returns-then-r c =
 
 pub returns-else-r : goal.returns-else-r
 returns-else-r c = record {
-      answer = refl;
-      catalogue = record { stored = λ e. never (sym c.if-r.false ∙ e); kept = λ _. refl };
-    }
+  answer = refl;
+  catalogue = record { stored = λ e. never (sym c.if-r.false ∙ e); kept = λ _. refl };
+}

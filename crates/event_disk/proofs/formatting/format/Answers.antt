@@ -3,7 +3,6 @@ use mathlib.Core.Path.{◌∙◌, ◌≡◌, ap, subst, sym}
 use Prim.Native.Nat.{◌/◌, ℕ}
 use native.Mathlib.Omega.{arith}
 use lib.ListN.{length}
-use borrow.Author.Rules.{rules}
 use Rattle.catalogue.proofs.Roomy.{served, version_of-one}
 use Rattle.catalogue.specs.Encoding.{encode}
 use Rattle.catalogue.specs.Version.{OneOf, version_for, versions}
@@ -69,7 +68,7 @@ store_fresh-requires c =
       one_of = (known, c.if-cat-version.false);
       count_le_piece_places = omega (arith, t.ensures.most);
       sound = fresh_rules _ known (n / block_size) t.result (some_blocks n c.if-disk-eq0.false c.if-disk-ne0.false)
-            (omega (arith, c.greatest_blocks.ensures.answer, c.if-blocks-greatest_blocks.false)) t.ensures;
+          (omega (arith, c.greatest_blocks.ensures.answer, c.if-blocks-greatest_blocks.false)) t.ensures;
     }
 
 pub returns : goal.returns
@@ -80,8 +79,8 @@ returns c =
     c.if-disk-eq0.false c.if-disk-ne0.false (omega (arith, c.greatest_blocks.ensures.answer, c.if-blocks-greatest_blocks.false)) in record {
       answer = sym (ap (λ o. o.reply) e);
       catalogue = c.store_fresh.ensures
-            ∙ (ap (encode c.of_length-version.result)
-            (fresh-layout (length c.args.disk.now / block_size) t.result t.ensures)
-            ∙ sym (ap (λ o. o.catalogue) e));
+          ∙ (ap (encode c.of_length-version.result)
+          (fresh-layout (length c.args.disk.now / block_size) t.result t.ensures)
+          ∙ sym (ap (λ o. o.catalogue) e));
       disk = sym (ap (λ o. o.disk) e);
     }

@@ -1,6 +1,5 @@
 -- `event_disk::reading::breaks` meets its contract: each return has the reply of the definition. Assumes nothing.
 use mathlib.Core.Path.{◌∙◌, refl, sym}
-use borrow.Author.Rules.{rules}
 use borrow.Author.Tests.{not-false, not-true}
 use Rattle.catalogue.specs.Version.{version_of}
 use Rattle.table.specs.Tables.{layout_of}

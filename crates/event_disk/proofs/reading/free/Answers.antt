@@ -1,7 +1,6 @@
 -- `event_disk::reading::free` meets its contract: each return has the reply of the definition. Assumes nothing.
 use mathlib.Core.Path.{◌∙◌, ap, refl, sym}
 use Rattle.manager.specs.Conditions.{answered}
-use borrow.Author.Rules.{rules}
 use borrow.Author.Tests.{not-false, not-true}
 use Rattle.catalogue.specs.Version.{version_of}
 use Rattle.table.specs.Tables.{layout_of}

@@ -1,12 +1,12 @@
 -- `Free::few` meets its contract: after `j` turns the first `j` places hold the first `j` pieces. Assumes nothing.
 use mathlib.Core.Path.{◌≡◌, refl}
-use Prim.Native.Nat.{◌-◌, ◌≤◌}
+use Prim.Native.Nat.{◌-◌}
 use native.Mathlib.Omega.{arith}
-use lib.ListN.{length, length-set, take}
+use lib.ListN.{length-set}
 use lib.Seq.{length-take-le}
 use borrow.Author.Rules.{rules}
-use Rattle.piece_lists.specs.Few.{list_of, piece_places}
-use Rattle.free_pieces.specs.Free.{free_of, free_places}
+use Rattle.piece_lists.specs.Few.{list_of}
+use Rattle.free_pieces.specs.Free.{free_of}
 use Rattle.piece.specs.Packed.{seen}
 use Rattle.piece.proofs.Seen.{seen-length, seen_same}
 use Rattle.piece_lists.proofs.Arrays.{copied_more, length_of_mapped}

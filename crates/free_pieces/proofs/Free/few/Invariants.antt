@@ -1,15 +1,9 @@
 -- `Free::few` meets its contract: after `j` turns the first `j` places hold the first `j` pieces. Assumes nothing.
-use mathlib.Core.Path.{◌≡◌, refl}
+use mathlib.Core.Path.{◌≡◌}
 use Prim.Native.Nat.{◌-◌, ◌≤◌}
-use native.Mathlib.Omega.{arith}
-use lib.ListN.{length, length-set, take}
-use lib.Seq.{length-take-le}
-use borrow.Author.Rules.{rules}
-use Rattle.piece_lists.specs.Few.{list_of, piece_places}
-use Rattle.free_pieces.specs.Free.{free_of, free_places}
-use Rattle.piece.specs.Packed.{seen}
-use Rattle.piece.proofs.Seen.{seen-length, seen_same}
-use Rattle.piece_lists.proofs.Arrays.{copied_more, length_of_mapped}
+use lib.ListN.{length, take}
+use Rattle.piece_lists.specs.Few.{piece_places}
+use Rattle.free_pieces.specs.Free.{free_places}
 use Rattle.free_pieces.proofs.Free.few.Given as goal
 
 abbrev pub invariant-loop-j : goal.invariant-loop-j

@@ -2,7 +2,6 @@
 -- from `h` up is that of all heights. The inner loop counts the pieces of height `h`: after `j` turns those among the
 -- first `j`. Assumes nothing.
 use mathlib.Core.Bool.{false}
-use mathlib.Core.Logic.{inl, inr}
 use mathlib.Core.Path.{◌∙◌, ◌≡◌, ap, refl, sym}
 use Prim.Native.Nat.{◌+◌, ◌-◌, ◌≤◌}
 use native.Mathlib.Omega.{arith}

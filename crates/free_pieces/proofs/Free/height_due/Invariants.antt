@@ -1,22 +1,13 @@
 -- `Free::height_due` finds the lowest height that has two pieces. The outer loop's invariant: the pair of the heights
 -- from `h` up is that of all heights. The inner loop counts the pieces of height `h`: after `j` turns those among the
 -- first `j`. Assumes nothing.
-use mathlib.Core.Bool.{false}
-use mathlib.Core.Logic.{inl, inr}
-use mathlib.Core.Path.{◌∙◌, ◌≡◌, ap, refl, sym}
-use Prim.Native.Nat.{◌+◌, ◌-◌, ◌≤◌}
-use native.Mathlib.Omega.{arith}
+use mathlib.Core.Path.{◌≡◌}
+use Prim.Native.Nat.{◌-◌, ◌≤◌}
 use lib.ListN.{length, take}
-use borrow.Author.Rules.{rules}
 use Rattle.layout.specs.Covering.{count_of}
 use Rattle.section.specs.Limits.{height_count}
-use Rattle.section.specs.Sections.{section}
 use Rattle.piece.specs.Packed.{seen}
-use Rattle.piece.proofs.Seen.{seen_get, seen-length}
-use Rattle.piece_lists.proofs.Arrays.{length_of_mapped}
-use Rattle.free_pieces.proofs.Draws.{pair_on}
-use Rattle.free_pieces.proofs.Fewer.{count_other, count_same, few_pair}
-use Rattle.free_pieces.specs.Free.{free_of, lowest_pair, pair_of, free_places}
+use Rattle.free_pieces.specs.Free.{free_of, lowest_pair, free_places}
 use Rattle.free_pieces.proofs.Free.height_due.Given as goal
 
 abbrev pub invariant-pieces : goal.invariant-pieces

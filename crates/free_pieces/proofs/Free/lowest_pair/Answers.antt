@@ -1,6 +1,5 @@
 -- `Free::lowest_pair` takes the pair of the lowest height that has two, as the definition does: at the places where
 -- the two stand. Assumes nothing.
-use mathlib.Core.Logic.{inl, inr}
 use mathlib.Core.Path.{◌∙◌, ◌≡◌}
 use Prim.Native.Nat.{◌+◌, ◌-◌, ℕ}
 use native.Mathlib.Omega.{arith}
@@ -13,7 +12,6 @@ use Rattle.free_pieces.proofs.BuddyPlaces.{buddies_places, no_buddies}
 use Rattle.free_pieces.proofs.Draws.{pair_end, pair_here}
 use Rattle.free_pieces.proofs.PairPlaces.{PairPlaces, free-length, low_there, lowest-places, places_same}
 use Rattle.free_pieces.specs.Free.{free_of, free_places, pair_of}
-use Rattle.free_pieces.specs.declared.Free.{Free}
 use Rattle.free_pieces.proofs.Free.lowest_pair.Goals as goal
 use Rattle.free_pieces.proofs.Free.lowest_pair.Goals.{else-self-low, then-self-low}
 

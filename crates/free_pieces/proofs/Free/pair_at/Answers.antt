@@ -1,9 +1,9 @@
 -- `Free::pair_at` takes the piece at a place, and then one at a place of the others: its loops are in `Loops`. Assumes
 -- nothing.
 use mathlib.Core.Path.{◌∙◌, ◌≡◌, ap, refl, sym}
-use Prim.Native.Nat.{◌-◌, ◌≤◌}
+use Prim.Native.Nat.{◌-◌}
 use native.Mathlib.Omega.{arith}
-use lib.ListN.{get_or, take, drop, length, length-set}
+use lib.ListN.{get_or, take, length, length-set}
 use lib.Seq.{get_or-take, length-take-le}
 use borrow.Author.Rules.{rules}
 use Rattle.section.specs.Sections.{section}
@@ -13,7 +13,6 @@ use Rattle.piece_lists.proofs.Arrays.{without_at-end, length_of_mapped, without_
 use Rattle.piece_lists.proofs.SeenPlaces.{seen-without}
 use Rattle.piece_lists.specs.Places.{without_at}
 use Rattle.free_pieces.specs.Free.{free_of, free_places}
-use mathlib.Core.List.{◌++◌}
 use Rattle.free_pieces.proofs.Free.pair_at.Goals as goal
 
 pub first-smaller : goal.first-smaller

@@ -1,18 +1,10 @@
 -- `Free::pair_at` takes the piece at a place, and then one at a place of the others: its loops are in `Loops`. Assumes
 -- nothing.
-use mathlib.Core.Path.{◌∙◌, ◌≡◌, ap, refl, sym}
+use mathlib.Core.Path.{◌≡◌}
 use Prim.Native.Nat.{◌-◌, ◌≤◌}
-use native.Mathlib.Omega.{arith}
-use lib.ListN.{get_or, take, drop, length, length-set}
-use lib.Seq.{get_or-take, length-take-le}
-use borrow.Author.Rules.{rules}
-use Rattle.section.specs.Sections.{section}
-use Rattle.piece.proofs.Seen.{seen_get, seen-length, seen-take}
-use Rattle.piece.specs.Packed.{no_piece, seen}
-use Rattle.piece_lists.proofs.Arrays.{without_at-end, length_of_mapped, without_at_more, without_at_start}
-use Rattle.piece_lists.proofs.SeenPlaces.{seen-without}
+use lib.ListN.{take, drop, length}
 use Rattle.piece_lists.specs.Places.{without_at}
-use Rattle.free_pieces.specs.Free.{free_of, free_places}
+use Rattle.free_pieces.specs.Free.{free_places}
 use mathlib.Core.List.{◌++◌}
 use Rattle.free_pieces.proofs.Free.pair_at.Given as goal
 

@@ -1,9 +1,9 @@
 -- `Free::place_from` finds the first piece of a height from a place on: from each place that it comes to on, it is the
 -- same one. Assumes nothing.
 use mathlib.Core.Path.{◌∙◌, ◌≡◌, ap, refl, sym}
-use Prim.Native.Nat.{◌+◌, ◌-◌, ◌≤◌}
+use Prim.Native.Nat.{◌-◌}
 use native.Mathlib.Omega.{arith}
-use lib.ListN.{drop, length, take}
+use lib.ListN.{length}
 use borrow.Author.Rules.{rules}
 use borrow.Author.Tests.{eq-eqb, ne_eqb}
 use Rattle.layout.specs.Layout.{has_height}
@@ -11,7 +11,6 @@ use Rattle.section.specs.Sections.{section}
 use Rattle.piece.specs.Packed.{seen}
 use Rattle.piece.proofs.Seen.{seen_get, seen-length}
 use Rattle.piece_lists.proofs.Arrays.{length_of_mapped, place_end, place_here, place_on}
-use Rattle.piece_lists.specs.Places.{first_place}
 use Rattle.free_pieces.specs.Free.{free_of, free_places}
 use Rattle.free_pieces.proofs.Free.place_from.Goals as goal
 

@@ -1,21 +1,12 @@
 -- `Free::place_of_buddies` finds the first piece whose buddy is free: from each place that it comes to on, it is the
 -- same one, and the last piece is none. Assumes nothing.
-use mathlib.Core.Bool.{Bool}
-use mathlib.Core.Path.{◌∙◌, ◌≡◌, refl, sym}
+use mathlib.Core.Path.{◌≡◌}
 use Prim.Native.Nat.{◌+◌, ◌-◌, ◌≤◌}
-use native.Mathlib.Decide.{dec_lt}
-use native.Mathlib.Omega.{arith}
 use lib.ListN.{drop, length, take}
-use borrow.Author.Rules.{rules}
-use Rattle.section.specs.Sections.{section}
-use Rattle.section.specs.declared.Section.{Section}
 use Rattle.layout.specs.Removing.{has_free_buddy}
 use Rattle.piece.specs.Packed.{seen}
-use Rattle.piece.proofs.Seen.{seen-length}
-use Rattle.piece_lists.proofs.Arrays.{length_of_mapped, place_end, place_here, place_on}
 use Rattle.piece_lists.specs.Places.{first_place}
-use Rattle.free_pieces.proofs.BuddyPlaces.{buddy-next, buddy-none}
-use Rattle.free_pieces.specs.Free.{free_of, free_places}
+use Rattle.free_pieces.specs.Free.{free_places}
 use Rattle.free_pieces.proofs.Free.place_of_buddies.Given as goal
 
 abbrev pub invariant-loop-place : goal.invariant-loop-place

@@ -1,12 +1,7 @@
 -- `Pair::copies` meets its contract: after `j` turns the blocks before the first `j` pieces are counted. Assumes
 -- nothing.
-use mathlib.Core.Path.{◌∙◌, ap, sym}
-use Prim.Native.Nat.{◌+◌, ◌-◌}
-use native.Mathlib.Omega.{arith}
-use lib.ListN.{length}
-use borrow.Author.Rules.{rules}
-use Rattle.free_pieces.specs.Free.{free_of}
-use Rattle.free_pieces.proofs.GapSteps.{Counting, copies_gaps, copies-none, counting_end, counting_gap, counting_more, counting_start}
+use Prim.Native.Nat.{◌-◌}
+use Rattle.free_pieces.proofs.GapSteps.{Counting}
 use Rattle.free_pieces.proofs.Pair.copies.Given as goal
 
 abbrev pub invariant-loop-j : goal.invariant-loop-j

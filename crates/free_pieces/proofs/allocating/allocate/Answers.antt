@@ -6,14 +6,10 @@ use mathlib.Core.Path.{◌∙◌, ◌≡◌, ap, refl, sym}
 use Prim.Native.Nat.{◌%◌, ◌+◌, ◌-◌, ◌/◌, ◌≤◌, ℕ}
 use native.Mathlib.Omega.{arith}
 use lib.ListN.{length, length-set, set}
-use borrow.Author.Rules.{rules}
 use borrow.Author.Tests.{not-false, not-true}
-use Rattle.section.specs.Limits.{greatest_height, height_count}
+use Rattle.section.specs.Limits.{greatest_height}
 use Rattle.free_pieces.proofs.LaidMore.{laid_failed, laid_more}
 use Rattle.free_pieces.proofs.PiecesLaid.{onward, onward-end, onward_failed, onward_skip, onward_start, onward-take, stocked_with}
-use Rattle.piece_lists.specs.Few.{piece_places}
-use Rattle.free_pieces.specs.Taking.{Stocked}
-use Rattle.free_pieces.specs.declared.Free.{Free}
 use Rattle.free_pieces.specs.declared.Laid.{Laid}
 use Rattle.piece_lists.specs.declared.Pieces.{Pieces}
 use Rattle.free_pieces.proofs.allocating.allocate.Goals as goal

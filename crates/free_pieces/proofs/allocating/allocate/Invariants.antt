@@ -1,16 +1,12 @@
 -- `allocate` is the definition. The loop's invariant: what the pieces laid so far and the ones below height `h`
 -- come to is what the definition allocates, and there is room for the pieces below `h`. A turn lays a piece if the
 -- quotient by the height's length is odd. Assumes nothing.
-use mathlib.Core.Bool.{false, true}
-use mathlib.Core.Path.{◌∙◌, ◌≡◌, ap, refl, sym}
-use Prim.Native.Nat.{◌%◌, ◌+◌, ◌-◌, ◌/◌, ◌≤◌, ℕ}
-use native.Mathlib.Omega.{arith}
-use lib.ListN.{length, length-set, set}
-use borrow.Author.Rules.{rules}
-use borrow.Author.Tests.{not-false, not-true}
-use Rattle.section.specs.Limits.{greatest_height, height_count}
-use Rattle.free_pieces.proofs.LaidMore.{laid_failed, laid_more}
-use Rattle.free_pieces.proofs.PiecesLaid.{onward, onward-end, onward_failed, onward_skip, onward_start, onward-take, stocked_with}
+use mathlib.Core.Bool.{true}
+use mathlib.Core.Path.{◌≡◌}
+use Prim.Native.Nat.{◌+◌, ◌-◌, ◌≤◌}
+use lib.ListN.{length}
+use Rattle.section.specs.Limits.{height_count}
+use Rattle.free_pieces.proofs.PiecesLaid.{onward}
 use Rattle.piece_lists.specs.Few.{piece_places}
 use Rattle.free_pieces.specs.Taking.{Stocked}
 use Rattle.free_pieces.specs.declared.Free.{Free}

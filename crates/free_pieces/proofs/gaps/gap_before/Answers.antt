@@ -2,7 +2,6 @@
 use mathlib.Core.Bool.{cond, false, true}
 use mathlib.Core.Path.{◌∙◌, ◌≡◌, ap, sym}
 use Prim.Native.Nat.{◌-◌}
-use borrow.Author.Rules.{rules}
 use Rattle.section.specs.Sections.{end_of, is_inside}
 use Rattle.free_pieces.proofs.gaps.gap_before.Goals as goal
 

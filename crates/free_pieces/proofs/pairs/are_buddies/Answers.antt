@@ -2,7 +2,6 @@
 use mathlib.Core.Bool.{◌&&◌}
 use mathlib.Core.Path.{◌∙◌, ap, sym}
 use lib.Dec.{eqb, ltb}
-use borrow.Author.Rules.{rules}
 use borrow.Author.Tests.{eq-eqb, ne_eqb}
 use Rattle.section.proofs.Booleans.{false_and}
 use Rattle.section.specs.Sections.{buddy_of}

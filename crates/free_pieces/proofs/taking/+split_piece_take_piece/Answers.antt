@@ -2,7 +2,6 @@
 -- nothing.
 use Prim.Native.Nat.{◌+◌, ◌-◌}
 use native.Mathlib.Omega.{arith}
-use borrow.Author.Rules.{rules}
 use Rattle.section.specs.Limits.{greatest_height}
 use Rattle.free_pieces.proofs.PieceTaken.{split_half, split_none, split_top, taken_here, taken_split, to_halve}
 use Rattle.free_pieces.specs.Free.{free_of, taken_of}

@@ -3,7 +3,6 @@ use mathlib.Core.Path.{◌∙◌, ap, ap₂, sym}
 use Prim.Native.Nat.{◌+◌, ℕ}
 use native.Mathlib.Omega.{arith}
 use lib.ListN.{length}
-use borrow.Author.Rules.{rules}
 use Rattle.layout.specs.Adding.{taken}
 use Rattle.layout.specs.Layout.{by_first}
 use Rattle.layout.specs.Lists.{insert_by}

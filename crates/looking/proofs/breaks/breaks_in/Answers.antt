@@ -13,9 +13,9 @@ returns-then-id-eq0 c = breaks-zero (layout_of c.args.t) c.args.id c.if-id-eq0.t
 
 pub look_up-looked-requires : goal.look_up-looked-requires
 look_up-looked-requires c = record {
-      count_le_most_files = c.requires.sized.files;
-      by_rising_id = opened_rises c.args.t c.requires;
-    }
+  count_le_most_files = c.requires.sized.files;
+  by_rising_id = opened_rises c.args.t c.requires;
+}
 
 pub returns-in_default : goal.returns-in_default
 returns-in_default c =

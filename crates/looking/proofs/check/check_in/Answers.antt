@@ -1,5 +1,4 @@
 -- `looking::check::check_in` meets its contract: a disk of another length is refused. Assumes nothing.
-use borrow.Author.Rules.{rules}
 use Rattle.looking.proofs.LookJudged.{check_right, check_wrong}
 use Rattle.looking.proofs.check.check_in.Goals as goal
 

@@ -34,8 +34,8 @@ look_up-looked-requires c =
 pub returns-in_default : goal.returns-in_default
 returns-in_default c =
     let whole = (read_missing c.args.t c.args.id c.args.first c.args.out.now c.args.disk.now c.if-disk-t.false
-        c.if-id-eq0.false
-        (looked_missing c.args.t c.requires c.args.id c.look_up-looked.result c.look_up-looked.ensures c.in_default.is)) in
+    c.if-id-eq0.false
+    (looked_missing c.args.t c.requires c.args.id c.look_up-looked.result c.look_up-looked.ensures c.in_default.is)) in
     record {
       answer = whole.0;
       output = whole.1;
@@ -44,9 +44,9 @@ returns-in_default c =
 pub returns-then-out-eq0 : goal.returns-then-out-eq0
 returns-then-out-eq0 c =
     let whole = (let x = looked_first c.args.t c.requires c.args.id c.look_up-looked.result c.look_up-looked.ensures c.in-Place.is in
-        read-empty c.args.t c.args.id c.args.first c.args.out.now c.args.disk.now c.if-disk-t.false
-        c.if-id-eq0.false (file_of (entry_at c.args.t c.in-Place.i))
-        (looked_found c.args.t c.requires c.args.id c.in-Place.i x) c.if-out-eq0.true) in
+    read-empty c.args.t c.args.id c.args.first c.args.out.now c.args.disk.now c.if-disk-t.false
+    c.if-id-eq0.false (file_of (entry_at c.args.t c.in-Place.i))
+    (looked_found c.args.t c.requires c.args.id c.in-Place.i x) c.if-out-eq0.true) in
     record {
       answer = whole.0;
       output = whole.1;
@@ -55,10 +55,10 @@ returns-then-out-eq0 c =
 pub returns-then-out-ne0 : goal.returns-then-out-ne0
 returns-then-out-ne0 c =
     let whole = (let x = looked_first c.args.t c.requires c.args.id c.look_up-looked.result c.look_up-looked.ensures c.in-Place.is in
-        read_broken c.args.t c.args.id c.args.first c.args.out.now c.args.disk.now c.if-disk-t.false
-        c.if-id-eq0.false (file_of (entry_at c.args.t c.in-Place.i))
-        (looked_found c.args.t c.requires c.args.id c.in-Place.i x)
-        c.if-out-eq0.false c.if-out-ne0.true) in
+    read_broken c.args.t c.args.id c.args.first c.args.out.now c.args.disk.now c.if-disk-t.false
+    c.if-id-eq0.false (file_of (entry_at c.args.t c.in-Place.i))
+    (looked_found c.args.t c.requires c.args.id c.in-Place.i x)
+    c.if-out-eq0.false c.if-out-ne0.true) in
     record {
       answer = whole.0;
       output = whole.1;
@@ -82,11 +82,11 @@ blocks_of-n-requires c =
 pub returns-then-count-n : goal.returns-then-count-n
 returns-then-count-n c =
     let whole = (let x = looked_first c.args.t c.requires c.args.id c.look_up-looked.result c.look_up-looked.ensures c.in-Place.is in
-        read_past c.args.t c.args.id c.args.first c.args.out.now c.args.disk.now c.if-disk-t.false
-        c.if-id-eq0.false (file_of (entry_at c.args.t c.in-Place.i))
-        (looked_found c.args.t c.requires c.args.id c.in-Place.i x)
-        c.if-out-eq0.false c.if-out-ne0.false
-        (omega (arith, c.blocks_of-n.ensures.equal, c.if-count-n.true))) in
+    read_past c.args.t c.args.id c.args.first c.args.out.now c.args.disk.now c.if-disk-t.false
+    c.if-id-eq0.false (file_of (entry_at c.args.t c.in-Place.i))
+    (looked_found c.args.t c.requires c.args.id c.in-Place.i x)
+    c.if-out-eq0.false c.if-out-ne0.false
+    (omega (arith, c.blocks_of-n.ensures.equal, c.if-count-n.true))) in
     record {
       answer = whole.0;
       output = whole.1;
@@ -95,11 +95,11 @@ returns-then-count-n c =
 pub returns-then-first-n : goal.returns-then-first-n
 returns-then-first-n c =
     let whole = (let x = looked_first c.args.t c.requires c.args.id c.look_up-looked.result c.look_up-looked.ensures c.in-Place.is in
-        read_past c.args.t c.args.id c.args.first c.args.out.now c.args.disk.now c.if-disk-t.false
-        c.if-id-eq0.false (file_of (entry_at c.args.t c.in-Place.i))
-        (looked_found c.args.t c.requires c.args.id c.in-Place.i x)
-        c.if-out-eq0.false c.if-out-ne0.false
-        (omega (arith, c.blocks_of-n.ensures.equal, c.if-count-n.false, c.if-first-n.true))) in
+    read_past c.args.t c.args.id c.args.first c.args.out.now c.args.disk.now c.if-disk-t.false
+    c.if-id-eq0.false (file_of (entry_at c.args.t c.in-Place.i))
+    (looked_found c.args.t c.requires c.args.id c.in-Place.i x)
+    c.if-out-eq0.false c.if-out-ne0.false
+    (omega (arith, c.blocks_of-n.ensures.equal, c.if-count-n.false, c.if-first-n.true))) in
     record {
       answer = whole.0;
       output = whole.1;

@@ -1,6 +1,5 @@
 -- `Piece::of` meets its contract: the section is in the word. Assumes nothing.
 use mathlib.Core.Path.{refl}
-use borrow.Author.Rules.{rules}
 use Rattle.piece.specs.Packed.{piece_of}
 use Rattle.piece.proofs.Packing.{packed}
 use Rattle.piece.proofs.Piece.of.Goals as goal

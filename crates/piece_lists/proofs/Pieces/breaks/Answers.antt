@@ -1,7 +1,7 @@
 -- `Pieces::breaks` meets its contract: what is counted and the breaks from the piece before place j on are all breaks.
 -- Assumes nothing.
 use mathlib.Core.Path.{◌∙◌, ◌≡◌, ap, ap₂, refl, sym}
-use Prim.Native.Nat.{◌+◌, ◌-◌, ◌<◌, ◌≤◌}
+use Prim.Native.Nat.{◌+◌, ◌-◌}
 use native.Mathlib.Omega.{arith}
 use lib.ListN.{drop, get_or, length, take}
 use borrow.Author.Rules.{rules}

@@ -1,7 +1,6 @@
 -- `break_between` is the definition's: 0 exactly if the next piece starts where the one before ends. Assumes nothing.
 use mathlib.Core.Path.{◌∙◌, ap, subst, sym}
 use native.Mathlib.Omega.{arith}
-use borrow.Author.Rules.{rules}
 use Rattle.section.specs.Sections.{Addressable, end_of}
 use Rattle.layout.proofs.Breaks.{break_adjoins, break_apart}
 use Rattle.piece.specs.Packed.{section_in}

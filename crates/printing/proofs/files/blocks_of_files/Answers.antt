@@ -2,12 +2,11 @@
 -- are the answer, and the sum is at most the greatest length in each place of each file passed. Assumes nothing.
 use mathlib.Core.List.{map}
 use mathlib.Core.Path.{◌≡◌, ap}
-use Prim.Native.Nat.{◌*◌, ◌+◌, ◌-◌, ◌≤◌}
+use Prim.Native.Nat.{◌-◌}
 use native.Mathlib.Omega.{arith}
 use borrow.Author.Rules.{rules}
-use lib.ListN.{drop, length, take}
-use Rattle.piece_lists.specs.Few.{piece_places}
-use Rattle.section.specs.Limits.{most_files, greatest_disk}
+use lib.ListN.{length}
+use Rattle.section.specs.Limits.{most_files}
 use Rattle.layout.specs.Layout.{file_blocks}
 use Rattle.layout.specs.Lists.{sum_of}
 use Rattle.piece_lists.proofs.Arrays.{ahead, behind, length_of_mapped}

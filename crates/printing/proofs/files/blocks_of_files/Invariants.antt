@@ -1,20 +1,14 @@
 -- `blocks_of_files` is the sum of the blocks of all files. The loop's invariant: the sum and the blocks of the rest
 -- are the answer, and the sum is at most the greatest length in each place of each file passed. Assumes nothing.
 use mathlib.Core.List.{map}
-use mathlib.Core.Path.{◌≡◌, ap}
+use mathlib.Core.Path.{◌≡◌}
 use Prim.Native.Nat.{◌*◌, ◌+◌, ◌-◌, ◌≤◌}
-use native.Mathlib.Omega.{arith}
-use borrow.Author.Rules.{rules}
 use lib.ListN.{drop, length, take}
 use Rattle.piece_lists.specs.Few.{piece_places}
 use Rattle.section.specs.Limits.{most_files, greatest_disk}
 use Rattle.layout.specs.Layout.{file_blocks}
 use Rattle.layout.specs.Lists.{sum_of}
-use Rattle.piece_lists.proofs.Arrays.{ahead, behind, length_of_mapped}
-use Rattle.piece_lists.proofs.EachItem.{each_taken}
-use Rattle.table.specs.Files.{no_entry}
-use Rattle.table.specs.Tables.{file_of, files_of}
-use Rattle.pieces.specs.Pieces.{LowEntry}
+use Rattle.table.specs.Tables.{file_of}
 use Rattle.printing.proofs.files.blocks_of_files.Given as goal
 
 abbrev pub invariant-loop-i : goal.invariant-loop-i

@@ -1,6 +1,5 @@
 -- `write_file` appends the line of id and n, and behind it the pairs by first block. Assumes nothing.
 use native.Mathlib.Omega.{arith}
-use borrow.Author.Rules.{rules}
 use Rattle.layout.proofs.Lists.{each_sort}
 use Rattle.layout.specs.Layout.{by_first}
 use Rattle.piece_lists.specs.Few.{list_of}
@@ -23,11 +22,11 @@ write_pairs-requires c =
     let n = c.blocks_of-n in record {
       places = omega (arith, s.ensures.count, s.ensures.few);
       low = rw s.ensures.list
-            (each_sort by_first
-            c.requires.low.low);
+          (each_sort by_first
+          c.requires.low.low);
       room = file-pairs-room (file_of e) n.result (list_of s.result) n.ensures.equal s.ensures.list
-            c.requires.room
-            c.write_line-next.ensures;
+          c.requires.room
+          c.write_line-next.ensures;
     }
 
 pub returns : goal.returns

@@ -2,7 +2,7 @@
 -- to write. Assumes nothing.
 use mathlib.Core.List.{map}
 use mathlib.Core.Path.{◌≡◌}
-use Prim.Native.Nat.{◌+◌, ◌-◌, ◌≤◌}
+use Prim.Native.Nat.{◌+◌, ◌-◌}
 use native.Mathlib.Omega.{arith}
 use borrow.Author.Rules.{rules}
 use lib.ListN.{drop, get_or, length, take}
@@ -14,7 +14,7 @@ use Rattle.table.specs.Files.{no_entry}
 use Rattle.table.specs.Tables.{file_of, files_of}
 use Rattle.pieces.specs.Pieces.{LowEntry}
 use Rattle.printing.proofs.Rows.{files_ahead, files_behind}
-use Rattle.texts.proofs.Writing.{Left, left_end, left_room, left_start, left_step}
+use Rattle.texts.proofs.Writing.{left_end, left_room, left_start, left_step}
 use Rattle.printing.proofs.files.write_files.Goals as goal
 
 pub loop-i-init : goal.loop-i-init

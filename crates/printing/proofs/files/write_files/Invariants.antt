@@ -2,19 +2,12 @@
 -- to write. Assumes nothing.
 use mathlib.Core.List.{map}
 use mathlib.Core.Path.{◌≡◌}
-use Prim.Native.Nat.{◌+◌, ◌-◌, ◌≤◌}
-use native.Mathlib.Omega.{arith}
-use borrow.Author.Rules.{rules}
-use lib.ListN.{drop, get_or, length, take}
+use Prim.Native.Nat.{◌-◌, ◌≤◌}
+use lib.ListN.{drop, length, take}
 use Rattle.section.specs.Limits.{most_files}
-use Rattle.manager.specs.Printing.{all_file_lines, file_lines}
-use Rattle.piece_lists.proofs.Arrays.{length_of_mapped}
-use Rattle.piece_lists.proofs.EachItem.{each_taken}
-use Rattle.table.specs.Files.{no_entry}
-use Rattle.table.specs.Tables.{file_of, files_of}
-use Rattle.pieces.specs.Pieces.{LowEntry}
-use Rattle.printing.proofs.Rows.{files_ahead, files_behind}
-use Rattle.texts.proofs.Writing.{Left, left_end, left_room, left_start, left_step}
+use Rattle.manager.specs.Printing.{all_file_lines}
+use Rattle.table.specs.Tables.{file_of}
+use Rattle.texts.proofs.Writing.{Left}
 use Rattle.printing.proofs.files.write_files.Given as goal
 
 abbrev pub invariant-loop-i : goal.invariant-loop-i

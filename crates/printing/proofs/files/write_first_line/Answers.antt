@@ -2,7 +2,6 @@
 -- Assumes nothing.
 use mathlib.Core.Path.{ap}
 use Prim.Native.Nat.{◌-◌}
-use borrow.Author.Rules.{rules}
 use Rattle.table.specs.Tables.{layout_of}
 use Rattle.printing.proofs.FileLines.{first_line_lem}
 use Rattle.texts.proofs.Writing.{appends_same, room_same}

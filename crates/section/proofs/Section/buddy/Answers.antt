@@ -3,7 +3,6 @@
 use mathlib.Core.Path.{ap, ◌∙◌}
 use Prim.Native.Nat.{ℕ}
 use lib.Bits.{bit_xor}
-use borrow.Author.Rules.{rules}
 use Rattle.section.specs.Sections.{section}
 use Rattle.section.proofs.Bits.{xor_length}
 use Rattle.section.proofs.Section.buddy.Goals as goal

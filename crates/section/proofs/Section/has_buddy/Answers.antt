@@ -1,6 +1,5 @@
 -- `section::Section::has_buddy` meets its contract. Assumes nothing.
 use mathlib.Core.Path.{ap, ◌∙◌}
-use borrow.Author.Rules.{rules}
 use native.Mathlib.Omega.{arith}
 use Rattle.section.specs.Sections.{has_buddy, is_on_disk}
 use Rattle.section.specs.declared.Section.{Section}

@@ -3,7 +3,6 @@ use mathlib.Core.Path.{ap, ◌∙◌}
 use Prim.Native.Nat.{ℕ}
 use lib.Bits.{and_mask, bit_and}
 use lib.Dec.{eqb}
-use borrow.Author.Rules.{rules}
 use Rattle.section.specs.Sections.{is_aligned}
 use Rattle.section.proofs.Section.is_aligned.Goals as goal
 

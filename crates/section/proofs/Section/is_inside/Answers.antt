@@ -1,7 +1,6 @@
 -- `section::Section::is_inside` meets its contract. Assumes nothing.
 use borrow.Author.Tests.{le-leb, lt-leb}
 use Rattle.section.specs.Sections.{is_inside}
-use borrow.Author.Rules.{rules}
 use Rattle.section.proofs.Section.is_inside.Goals as goal
 
 pub returns-then-other-self : goal.returns-then-other-self

@@ -1,7 +1,6 @@
 -- `section::Section::mask` meets its contract: one less than the length. Assumes nothing.
 use mathlib.Core.Path.{ap}
 use Prim.Native.Nat.{ℕ, ◌-◌}
-use borrow.Author.Rules.{rules}
 use Rattle.section.proofs.Section.mask.Goals as goal
 
 pub returns : goal.returns

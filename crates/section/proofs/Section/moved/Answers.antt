@@ -1,7 +1,6 @@
 -- `section::Section::moved` meets its contract: the answer of `is_inside` is the definition's test. Assumes nothing.
 use mathlib.Core.Path.{sym, ◌∙◌}
 use native.Mathlib.Omega.{arith}
-use borrow.Author.Rules.{rules}
 use Rattle.section.proofs.Answers.{inside_iff}
 use Rattle.section.proofs.Moves.{moved_inside, moved_outside}
 use Rattle.section.proofs.Section.moved.Goals as goal

@@ -4,7 +4,7 @@ use mathlib.Core.Path.{◌≡◌}
 use native.Mathlib.Omega.{arith}
 use borrow.Author.Tests.{not-false, not-true}
 use Rattle.settling.proofs.MadeMerges.{made_in_order, next_countable, next_most, next_movable}
-use Rattle.settling.proofs.PlanSteps.{Counted, counted-all, counted_more, counted_none, counted-one}
+use Rattle.settling.proofs.PlanSteps.{counted-all, counted_more, counted_none, counted-one}
 use Rattle.settling.proofs.planning.plan.Goals as goal
 
 pub loop-p-init : goal.loop-p-init

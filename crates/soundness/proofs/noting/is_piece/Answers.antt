@@ -1,6 +1,5 @@
 -- `soundness::noting::is_piece` meets its contract: its tests are the definition's. Assumes nothing.
 use mathlib.Core.Path.{◌∙◌, sym}
-use borrow.Author.Rules.{rules}
 use Rattle.soundness.proofs.Tested.{high_piece, low_piece}
 use Rattle.soundness.proofs.noting.is_piece.Goals as goal
 

@@ -1,18 +1,16 @@
 -- `soundness::noting::note_list` meets its contract: every piece before `i` is on the disk, and is noted after those
 -- that were there. Assumes nothing.
 use mathlib.Core.Bool.{true}
-use mathlib.Core.List.{List, ◌++◌, append-nil}
+use mathlib.Core.List.{◌++◌, append-nil}
 use mathlib.Core.Path.{◌≡◌, ◌∙◌, ap, refl, subst, sym}
-use Prim.Native.Nat.{ℕ, ◌*◌, ◌+◌, ◌-◌, ◌≤◌, ◌<◌}
+use Prim.Native.Nat.{◌+◌, ◌-◌}
 use native.Mathlib.Omega.{arith}
 use lib.ListN.{get_or, length, take}
 use lib.Seq.{length-take-le}
 use borrow.Author.Rules.{rules}
-use borrow.Author.Tests.{not-true, not-false}
 use borrow.Author.Count.{below_more}
-use Rattle.section.specs.Limits.{height_count, most_files}
+use Rattle.section.specs.Limits.{height_count}
 use Rattle.section.specs.Sections.{Spans}
-use Rattle.section.specs.declared.Section.{Section}
 use Rattle.piece.specs.Packed.{seen}
 use Rattle.piece.proofs.Seen.{seen_get, seen-length}
 use Rattle.piece_lists.specs.Few.{list_of, piece_places}
@@ -47,7 +45,7 @@ returns-then-not-is_piece c =
     ∙ (sym c.is_piece.ensures ∙ c.if-not-is_piece.true) in record {
       exact = length-take-le c.args.list.count (seen c.args.list.items) (omega (arith, n, v.0, v.1, v.3));
       disk = sym (one_fails (seen c.args.list.items) c.args.list.count blank (omega (arith, n, v.0, v.1, v.3))
-            (sound_piece height_count c.args.blocks) l.i c.loop-i-test.true fails);
+          (sound_piece height_count c.args.blocks) l.i c.loop-i-test.true fails);
       noted = λ l q h t. false_true t;
     }
 
@@ -89,6 +87,6 @@ returns c =
     let e : l.i ≡ c.args.list.count = omega (arith, v.0, v.6, c.loop-i-test.false) in record {
       exact = length-take-le c.args.list.count (seen c.args.list.items) (omega (arith, n, v.0, v.1, v.3));
       disk = sym (all_hold (seen c.args.list.items) c.args.list.count blank (omega (arith, n, v.0, v.1, v.3))
-            (sound_piece height_count c.args.blocks) (λ k h. v.4 k (omega (arith, e))));
+          (sound_piece height_count c.args.blocks) (λ k h. v.4 k (omega (arith, e))));
       noted = λ k q h t. subst (λ z. Noted (k ++ take z (seen c.args.list.items)) l.firsts l.masks) e (v.5 k q h);
     }

@@ -3,15 +3,12 @@
 use mathlib.Core.Bool.{◌&&◌, true}
 use mathlib.Core.List.{◌++◌}
 use mathlib.Core.Path.{◌≡◌, ◌∙◌, ap, ap₂, refl, subst, sym}
-use Prim.Native.Nat.{◌*◌, ◌-◌, ◌<◌, ◌≤◌}
+use Prim.Native.Nat.{◌-◌, ◌<◌, ◌≤◌}
 use native.Mathlib.Omega.{arith}
 use lib.ListN.{get_or, length, length-append}
-use borrow.Author.Rules.{rules}
-use borrow.Author.Tests.{not-true, not-false}
-use Rattle.section.specs.Limits.{height_count, most_files}
-use Rattle.layout.specs.Lists.{Each}
+use Rattle.section.specs.Limits.{height_count}
 use Rattle.layout.specs.Layout.{all_pieces, file_pieces}
-use Rattle.piece_lists.specs.Few.{list_of, piece_places}
+use Rattle.piece_lists.specs.Few.{list_of}
 use Rattle.piece_lists.proofs.EachItem.{each_get}
 use Rattle.free_pieces.specs.Free.{free_of}
 use Rattle.table.specs.Tables.{InPlaces, files_of, layout_of}
@@ -22,7 +19,7 @@ use Rattle.soundness.specs.Sharing.{Noted}
 use Rattle.soundness.proofs.EveryPiece.{every_file, every_front, every_joined}
 use Rattle.soundness.proofs.Joined.{blank_entry, file_pieces_more, files_to}
 use Rattle.soundness.proofs.Points.{false_true, is_false}
-use Rattle.soundness.proofs.Tested.{Rising, ids_fail, ids_hold, rising_more, rising_start, sound_id}
+use Rattle.soundness.proofs.Tested.{ids_fail, ids_hold, rising_more, rising_start, sound_id}
 use Rattle.soundness.proofs.noting.note_pieces.Goals as goal
 
 pub loop-i-init : goal.loop-i-init

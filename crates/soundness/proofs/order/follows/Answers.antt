@@ -3,7 +3,6 @@ use mathlib.Core.Bool.{not}
 use mathlib.Core.Path.{◌∙◌, ap₂, sym}
 use native.Mathlib.Omega.{arith}
 use lib.Dec.{eqb}
-use borrow.Author.Rules.{rules}
 use Rattle.piece.specs.Packed.{section_in}
 use Rattle.soundness.proofs.Ordered.{turn_early, turn_late}
 use Rattle.soundness.proofs.order.follows.Goals as goal

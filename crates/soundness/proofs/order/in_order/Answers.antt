@@ -2,13 +2,12 @@
 use Rattle.piece.specs.Packed.{seen}
 use Rattle.piece.proofs.Seen.{seen-length, seen_get}
 use mathlib.Core.Path.{◌≡◌, ◌∙◌, sym, ap₂}
-use Prim.Native.Nat.{◌-◌, ◌≤◌, ◌<◌}
+use Prim.Native.Nat.{◌-◌}
 use native.Mathlib.Omega.{arith}
 use lib.ListN.{length}
 use borrow.Author.Rules.{rules}
-use borrow.Author.Tests.{not-true, not-false}
 use Rattle.piece_lists.proofs.Arrays.{length_of_mapped}
-use Rattle.soundness.proofs.Points.{Row, Rows, blank, pair_fails, row_more, row_start, rows_end, rows_more, rows_none}
+use Rattle.soundness.proofs.Points.{blank, pair_fails, row_more, row_start, rows_end, rows_more, rows_none}
 use Rattle.soundness.specs.Order.{in_turn}
 use Rattle.piece_lists.specs.Few.{list_of, piece_places}
 use Rattle.soundness.proofs.order.in_order.Goals as goal

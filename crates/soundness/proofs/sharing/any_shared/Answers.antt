@@ -1,16 +1,13 @@
 -- `soundness::sharing::any_shared` meets its contract: every two pieces before `i`, and `i` up to `j`. Assumes
 -- nothing.
 use mathlib.Core.Bool.{false, not}
-use mathlib.Core.List.{List}
-use mathlib.Core.Path.{◌≡◌, ◌∙◌, ap, refl, sym}
-use Prim.Native.Nat.{◌+◌, ◌-◌, ◌<◌, ◌≤◌}
+use mathlib.Core.Path.{◌∙◌, ap, refl, sym}
+use Prim.Native.Nat.{◌-◌}
 use native.Mathlib.Omega.{arith}
 use lib.ListN.{get_or}
-use borrow.Author.Rules.{rules}
-use Rattle.section.specs.declared.Section.{Section}
-use Rattle.soundness.specs.Sharing.{Noted, far, group_size}
+use Rattle.soundness.specs.Sharing.{far, group_size}
 use Rattle.soundness.proofs.Groups.{apart, group_fails, row_group, rows_through}
-use Rattle.soundness.proofs.Points.{Row, Rows, row_start, rows_more, rows_none}
+use Rattle.soundness.proofs.Points.{row_start, rows_more, rows_none}
 use Rattle.soundness.proofs.sharing.any_shared.Goals as goal
 
 pub pairs-init : goal.pairs-init

@@ -1,14 +1,10 @@
 -- `soundness::sharing::group_shares` meets its contract: what was found of the first `k` of a group. Assumes
 -- nothing.
-use mathlib.Core.List.{List}
 use mathlib.Core.Path.{◌≡◌, ◌∙◌, ap}
-use Prim.Native.Nat.{◌+◌, ◌-◌, ◌≤◌}
+use Prim.Native.Nat.{◌+◌, ◌-◌}
 use native.Mathlib.Omega.{arith}
 use lib.ListN.{get_or}
-use borrow.Author.Rules.{rules}
-use Rattle.section.specs.Sections.{Spans}
-use Rattle.section.specs.declared.Section.{Section}
-use Rattle.soundness.specs.Sharing.{Noted, far, group_size, shares_among}
+use Rattle.soundness.specs.Sharing.{far, group_size, shares_among}
 use Rattle.soundness.proofs.Groups.{among_more, among_none}
 use Rattle.soundness.proofs.sharing.group_shares.Goals as goal
 

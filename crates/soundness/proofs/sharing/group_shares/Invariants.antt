@@ -1,15 +1,11 @@
 -- `soundness::sharing::group_shares` meets its contract: what was found of the first `k` of a group. Assumes
 -- nothing.
 use mathlib.Core.List.{List}
-use mathlib.Core.Path.{◌≡◌, ◌∙◌, ap}
-use Prim.Native.Nat.{◌+◌, ◌-◌, ◌≤◌}
-use native.Mathlib.Omega.{arith}
-use lib.ListN.{get_or}
-use borrow.Author.Rules.{rules}
+use mathlib.Core.Path.{◌≡◌}
+use Prim.Native.Nat.{◌-◌, ◌≤◌}
 use Rattle.section.specs.Sections.{Spans}
 use Rattle.section.specs.declared.Section.{Section}
-use Rattle.soundness.specs.Sharing.{Noted, far, group_size, shares_among}
-use Rattle.soundness.proofs.Groups.{among_more, among_none}
+use Rattle.soundness.specs.Sharing.{Noted, group_size, shares_among}
 use Rattle.soundness.proofs.sharing.group_shares.Given as goal
 
 abbrev pub invariant-loop-k : goal.invariant-loop-k

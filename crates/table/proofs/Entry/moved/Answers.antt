@@ -10,7 +10,7 @@ use native.Mathlib.Omega.{arith}
 use lib.ListN.{get_or, length, take}
 use borrow.Author.Rules.{rules}
 use Rattle.piece_lists.specs.Few.{list_of, piece_places}
-use Rattle.section.specs.Sections.{Addressable, moved_into, section}
+use Rattle.section.specs.Sections.{Addressable, moved_into}
 use Rattle.section.specs.declared.Section.{Section}
 use Rattle.piece_lists.proofs.Arrays.{length_of_mapped}
 use Rattle.table.proofs.MapFirst.{map_first-at, map_first_more, map_first-none, can_pack}

@@ -4,15 +4,14 @@ use Rattle.piece.specs.Packed.{seen}
 use Rattle.piece.proofs.Seen.{seen-length, seen_get}
 use Rattle.piece_lists.proofs.SeenPlaces.{each_read}
 use mathlib.Core.Path.{◌∙◌, ◌≡◌, refl, sym, ap}
-use Prim.Native.Nat.{◌+◌, ◌-◌, ◌≤◌}
+use Prim.Native.Nat.{◌-◌}
 use native.Mathlib.Omega.{arith}
-use lib.ListN.{drop, length, take}
+use lib.ListN.{length}
 use borrow.Author.Rules.{rules}
 use Rattle.piece_lists.specs.Few.{list_of, piece_places}
 use Rattle.section.specs.Sections.{Addressable, section}
 use Rattle.piece_lists.proofs.Arrays.{length_of_mapped, place_end, place_here, place_on}
 use Rattle.table.specs.Moves.{lies_in}
-use Rattle.piece_lists.specs.Places.{first_place}
 use Rattle.table.proofs.Entry.place_inside.Goals as goal
 
 pub loop-place-init : goal.loop-place-init

@@ -1,16 +1,10 @@
 -- `Entry::place_inside` answers how many pieces stand before the first that lies inside. The loop's invariant is that
 -- of `place_by_first`. Assumes nothing.
 use Rattle.piece.specs.Packed.{seen}
-use Rattle.piece.proofs.Seen.{seen-length, seen_get}
-use Rattle.piece_lists.proofs.SeenPlaces.{each_read}
-use mathlib.Core.Path.{◌∙◌, ◌≡◌, refl, sym, ap}
+use mathlib.Core.Path.{◌≡◌}
 use Prim.Native.Nat.{◌+◌, ◌-◌, ◌≤◌}
-use native.Mathlib.Omega.{arith}
 use lib.ListN.{drop, length, take}
-use borrow.Author.Rules.{rules}
-use Rattle.piece_lists.specs.Few.{list_of, piece_places}
-use Rattle.section.specs.Sections.{Addressable, section}
-use Rattle.piece_lists.proofs.Arrays.{length_of_mapped, place_end, place_here, place_on}
+use Rattle.piece_lists.specs.Few.{piece_places}
 use Rattle.table.specs.Moves.{lies_in}
 use Rattle.piece_lists.specs.Places.{first_place}
 use Rattle.table.proofs.Entry.place_inside.Given as goal

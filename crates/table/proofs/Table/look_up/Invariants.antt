@@ -1,17 +1,11 @@
 -- `table::Table::look_up` meets its contract: every id passed is below the one sought, and was counted. Assumes
 -- nothing.
-use mathlib.Core.Path.{◌∙◌, ◌≡◌, sym}
-use Prim.Native.Nat.{◌+◌, ◌-◌, ◌<◌, ◌≤◌}
-use native.Mathlib.Omega.{arith}
+use mathlib.Core.Path.{◌≡◌}
+use Prim.Native.Nat.{◌+◌, ◌-◌, ◌≤◌}
 use lib.ListN.{drop, length, take}
-use borrow.Author.Rules.{rules}
-use borrow.Author.Tests.{le-leb, lt-leb}
 use Rattle.section.specs.Limits.{most_files}
-use Rattle.piece_lists.proofs.Arrays.{length_of_mapped, place_end, place_here, place_on}
 use Rattle.piece_lists.specs.Places.{first_place}
 use Rattle.table.proofs.FileLists.{no_lower_id}
-use Rattle.table.proofs.LookUps.{ends_found, ends_larger, ends_past}
-use Rattle.table.specs.Files.{entry_at, no_entry}
 use Rattle.table.proofs.Table.look_up.Given as goal
 
 abbrev pub invariant-loop-j : goal.invariant-loop-j

@@ -1,16 +1,13 @@
 -- `table::Table::release` meets its contract: its pieces join the free ones, and each turn moves one file more down a
 -- place. Assumes nothing.
-use mathlib.Core.List.{◌++◌}
 use mathlib.Core.Path.{◌∙◌, ◌≡◌, ap, refl, sym}
-use Prim.Native.Nat.{◌-◌, ◌≤◌}
+use Prim.Native.Nat.{◌-◌}
 use native.Mathlib.Omega.{arith}
-use lib.ListN.{drop, length, length-set, take}
+use lib.ListN.{length, length-set}
 use borrow.Author.Rules.{rules}
 use Rattle.section.specs.Limits.{most_files}
-use Rattle.layout.specs.Lists.{Each}
 use Rattle.piece_lists.proofs.Arrays.{length_of_mapped, without_at-end, without_at_more, without_at_start}
 use Rattle.piece_lists.proofs.EachItem.{each_get, each_set}
-use Rattle.piece_lists.specs.Places.{without_at}
 use Rattle.table.proofs.Released.{layout_released}
 use Rattle.table.specs.Files.{no_entry}
 use Rattle.table.specs.Tables.{InPlaces}

@@ -1,18 +1,12 @@
 -- `table::Table::release` meets its contract: its pieces join the free ones, and each turn moves one file more down a
 -- place. Assumes nothing.
 use mathlib.Core.List.{◌++◌}
-use mathlib.Core.Path.{◌∙◌, ◌≡◌, ap, refl, sym}
+use mathlib.Core.Path.{◌≡◌}
 use Prim.Native.Nat.{◌-◌, ◌≤◌}
-use native.Mathlib.Omega.{arith}
-use lib.ListN.{drop, length, length-set, take}
-use borrow.Author.Rules.{rules}
+use lib.ListN.{drop, length, take}
 use Rattle.section.specs.Limits.{most_files}
 use Rattle.layout.specs.Lists.{Each}
-use Rattle.piece_lists.proofs.Arrays.{length_of_mapped, without_at-end, without_at_more, without_at_start}
-use Rattle.piece_lists.proofs.EachItem.{each_get, each_set}
 use Rattle.piece_lists.specs.Places.{without_at}
-use Rattle.table.proofs.Released.{layout_released}
-use Rattle.table.specs.Files.{no_entry}
 use Rattle.table.specs.Tables.{InPlaces}
 use Rattle.table.proofs.Table.release.Given as goal
 

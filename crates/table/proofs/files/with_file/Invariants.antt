@@ -1,21 +1,14 @@
 -- `table::with_file` meets its contract: the files before the place have a lower id, and each turn moves one file more
 -- up a place. Assumes nothing.
 use mathlib.Core.List.{◌++◌, ◌∷◌}
-use mathlib.Core.Logic.{⊎_elim}
-use mathlib.Core.Path.{◌∙◌, ◌≡◌, refl, sym}
+use mathlib.Core.Path.{◌≡◌}
 use Prim.Native.Nat.{◌+◌, ◌-◌, ◌<◌, ◌≤◌}
-use native.Mathlib.Omega.{arith}
-use lib.ListN.{drop, length, length-set, take}
-use borrow.Author.Rules.{rules}
-use borrow.Author.Tests.{le-leb, lt-leb}
+use lib.ListN.{drop, length, take}
 use Rattle.section.specs.Limits.{most_files}
 use Rattle.layout.specs.Lists.{Each}
-use Rattle.piece_lists.proofs.Arrays.{length_of_mapped, place_end, place_here, place_on, with_at-end, with_at_more, with_at_start}
-use Rattle.piece_lists.proofs.EachItem.{each_get, each_set}
 use Rattle.piece_lists.specs.Places.{first_place, with_at}
-use Rattle.table.proofs.FileLists.{layout-added, no_lower_id}
-use Rattle.table.specs.Files.{no_entry}
-use Rattle.table.specs.Tables.{InPlaces, layout_of}
+use Rattle.table.proofs.FileLists.{no_lower_id}
+use Rattle.table.specs.Tables.{InPlaces}
 use Rattle.table.proofs.files.with_file.Given as goal
 
 abbrev pub invariant-rank : goal.invariant-rank

@@ -1,26 +1,15 @@
 -- `table::free_with` inserts the pieces of a file one after another into one array: its loops are in `Loops`.
 -- Assumes nothing.
-use mathlib.Core.Path.{◌∙◌, ◌≡◌, ap, sym, refl}
+use mathlib.Core.Path.{◌≡◌}
 use Prim.Native.Nat.{◌+◌, ◌-◌, ◌<◌, ◌≤◌}
-use native.Mathlib.Omega.{arith}
-use lib.ListN.{drop, length, take, get_or, length-set}
-use lib.Seq.{length-take-le}
-use borrow.Author.Rules.{rules}
+use lib.ListN.{drop, length, take}
 use Rattle.layout.specs.Removing.{insert_all}
-use Rattle.piece.specs.Packed.{seen, no_piece, section_in}
-use Rattle.piece.proofs.Seen.{seen-length, seen_get}
-use Rattle.piece_lists.specs.Few.{list_of, piece_places}
-use Rattle.free_pieces.specs.Free.{free_of, free_places}
+use Rattle.piece.specs.Packed.{seen, section_in}
+use Rattle.piece_lists.specs.Few.{piece_places}
+use Rattle.free_pieces.specs.Free.{free_places}
 use mathlib.Core.List.{◌++◌, ◌∷◌}
-use lib.Dec.{leb}
-use borrow.Author.Tests.{le-leb, lt-leb}
-use Rattle.section.specs.Sections.{section}
-use Rattle.layout.specs.Layout.{by_first}
-use Rattle.layout.specs.Lists.{insert_by}
 use Rattle.piece_lists.specs.Places.{first_place, with_at}
-use Rattle.piece_lists.proofs.Arrays.{back_here, back_on, length_of_mapped, place_end, with_at_more, with_at_start}
-use Rattle.table.proofs.FreeLists.{all_more, all_none}
-use Rattle.piece_lists.proofs.PutAmong.{put_among, starts_no_lower}
+use Rattle.piece_lists.proofs.PutAmong.{starts_no_lower}
 use Rattle.table.proofs.release.free_with.Given as goal
 
 abbrev pub invariant-place : goal.invariant-place

@@ -7,7 +7,8 @@ use native.Mathlib.Decide.{dec_lt}
 use native.Mathlib.Numerals.{add-one}
 use native.Mathlib.Omega.{arith}
 use lib.ListN.{get_or-append, drop, get_or, length, set, take}
-use lib.Seq.{get_or-append-add, get_or-drop, get_or-take, length_paste_head, length-take-le, paste, paste-suc, paste-zero}
+use lib.Seq.{get_or-append-add, get_or-drop, get_or-take, length_paste_head, length-take-le, paste, paste-suc}
+use lib.Seq.{paste-zero}
 use lib.Seq.{take_all}
 use Rattle.blocks.specs.DiskCode.{HasBlock}
 use Rattle.manager.proofs.Blocks.{block-length}

@@ -8,7 +8,8 @@ use Rattle.case_table.specs.BesideBook.{book_with_lines, both_reply, from_format
 use Rattle.case_table.specs.BesideBook.{ten_calls}
 use Rattle.case_table.specs.CaseRows.{blocks_of_bytes, filled_blocks, untouched}
 use Rattle.case_table.specs.CaseRun.{performed}
-use Rattle.manager.specs.Book.{answers, any_number, bytes_of, content_pages, count_from, in_book, line_with, pages_in_lines}
+use Rattle.manager.specs.Book.{answers, any_number, bytes_of, content_pages, count_from, in_book, line_with}
+use Rattle.manager.specs.Book.{pages_in_lines}
 use Rattle.manager.specs.BookLetters.{book_rank, counted_from, letter_on}
 use Rattle.manager.specs.Book.{refuses, strike_line, write_line}
 use Rattle.manager.specs.Call.{replace}

@@ -3,7 +3,8 @@
 use mathlib.Core.List.{[], ◌++◌, ◌∷◌, map}
 use mathlib.Core.Path.{◌≡◌, refl}
 use lib.Count.{ones, ones_in}
-use Rattle.catalogue.specs.Reading.{every, file_read, is_sound, judged, pairwise, read_catalogue, read_entries, read_entry}
+use Rattle.catalogue.specs.Reading.{every, file_read, is_sound, judged, pairwise, read_catalogue, read_entries}
+use Rattle.catalogue.specs.Reading.{read_entry}
 use Rattle.catalogue.specs.Reading.{read_from, read_header, read_layout, read_pair, read_pairs, sound, unsound}
 use Rattle.catalogue.specs.SoundRows.{file, layout, sound_rows}
 use Rattle.catalogue.specs.UnsoundRows.{end_rows, entry_rows, free_rows, header_rows, section_rows, shared_rows}

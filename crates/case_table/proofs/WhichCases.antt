@@ -10,7 +10,8 @@ use Rattle.case_table.specs.RefusalTable.{filled_up, small}
 use Rattle.case_table.specs.WhichRows.{WhichRow, disks, expected_in, expected_on, five_asked, five_copies}
 use Rattle.case_table.specs.WhichRows.{five_removed, five_shown, full_rows, outcome_on, six_asked, six_rows, six_shown}
 use Rattle.case_table.specs.WhichRows.{step_in}
-use Rattle.manager.specs.Book.{content_pages, count_from, ids_with_room, line_with, pages_in_lines, strike_line, write_line}
+use Rattle.manager.specs.Book.{content_pages, count_from, ids_with_room, line_with, pages_in_lines, strike_line}
+use Rattle.manager.specs.Book.{write_line}
 
 -- ---- beside the book
 

@@ -1,7 +1,8 @@
 -- How a row of the table of cases is computed: it starts from a format or from a given layout, makes its calls by
 -- the definitions of `Outcomes`, and shows replies, outputs, copies, the layout that is read afterwards, breaks,
 -- pages and blocks. Definitions only.
-use Rattle.std.specs.Prelude.{◌&&◌, cond, List, [], ◌++◌, ◌∷◌, map, ◌+◌, ◌/◌, suc, zero, ℕ, eqb, drop, length, replicate, take}
+use Rattle.std.specs.Prelude.{◌&&◌, cond, List, [], ◌++◌, ◌∷◌, map, ◌+◌, ◌/◌, suc, zero, ℕ, eqb, drop, length}
+use Rattle.std.specs.Prelude.{replicate, take}
 use Rattle.std.specs.Int.Count.{ones, ones_in}
 use Rattle.catalogue.specs.Encoding.{big_endian, encode, entries_bytes, entry_bytes, header_bytes, pair_bytes}
 use Rattle.catalogue.specs.Encoding.{pairs_bytes, used_bytes}
@@ -15,19 +16,22 @@ use Rattle.layout.specs.Helping.{candidates_of, helping_ids}
 use Rattle.layout.specs.Layout.{File, Found, Layout, block_run, blocks_of, breaks_of, file_pieces, find_file, found}
 use Rattle.layout.specs.Layout.{fresh_layout, in_range, missing, pieces_from}
 use Rattle.layout.specs.Lists.{insert_by, sort_by}
-use Rattle.layout.specs.Removing.{Copy, buddy_pair, copies_from, copies_of, copy_run, insert_all, layout_after, lowest_two}
+use Rattle.layout.specs.Removing.{Copy, buddy_pair, copies_from, copies_of, copy_run, insert_all, layout_after}
+use Rattle.layout.specs.Removing.{lowest_two}
 use Rattle.layout.specs.Removing.{merge, merge_all, merge_pair, next_merge, release, removal, without_file}
 use Rattle.case_table.specs.CaseRows.{FileSeen, Row, Seen, Start, filled_blocks, fresh_disk, given_layout}
 use Rattle.case_table.specs.CaseRows.{untouched}
 use Rattle.manager.specs.Call.{Call, add, breaks, check, free, read, remove, replace, which}
 use Rattle.manager.specs.Conditions.{Outcome, Reply, answered, first_refusal, fits_already, refused}
 use Rattle.manager.specs.Disk.{cut_pages, join_pages, pages_on, run_copies, write_pages}
-use Rattle.manager.specs.Outcomes.{add_in, breaks_in, breaks_reply, check_in, format_in, format_outcome, free_in, perform}
+use Rattle.manager.specs.Outcomes.{add_in, breaks_in, breaks_reply, check_in, format_in, format_outcome, free_in}
+use Rattle.manager.specs.Outcomes.{perform}
 use Rattle.manager.specs.Outcomes.{read_in, remove_in, replace_outcome, which_in}
 use Rattle.quality.specs.Letters.{first_letter, rank_of}
 use Rattle.section.specs.Limits.{height_count}
 use Rattle.section.specs.Heights.{height_of}
-use Rattle.section.specs.Sections.{buddy_first, is_aligned, is_inside, is_on_disk, moved_into, parent_first, shares_block}
+use Rattle.section.specs.Sections.{buddy_first, is_aligned, is_inside, is_on_disk, moved_into, parent_first}
+use Rattle.section.specs.Sections.{shares_block}
 
 -- ---- blocks
 

@@ -4,7 +4,8 @@ use mathlib.Core.List.{List, [], ◌∷◌, map}
 use mathlib.Core.Path.{◌≡◌, refl}
 use lib.Count.{ones, ones_in}
 use Rattle.catalogue.specs.Reading.{Reading, every, file_read, is_sound, judged, pairwise, read_catalogue}
-use Rattle.catalogue.specs.Reading.{read_entries, read_entry, read_from, read_header, read_layout, read_pair, read_pairs}
+use Rattle.catalogue.specs.Reading.{read_entries, read_entry, read_from, read_header, read_layout, read_pair}
+use Rattle.catalogue.specs.Reading.{read_pairs}
 use Rattle.catalogue.specs.Reading.{unsound}
 use Rattle.catalogue.specs.UnsoundRows.{end_rows, entry_rows, free_rows, header_rows, section_rows, shared_rows}
 use Rattle.catalogue.specs.Version.{version1}

@@ -1,7 +1,8 @@
 -- The layout that is read from the bytes of a catalogue, if they are sound. Definitions only.
 -- Nobody has to believe this file: the theorem `reading_iff` says that a layout is read exactly if the bytes are
 -- its encoding and it is sound.
-use Rattle.std.specs.Prelude.{Bool, true, false, ◌&&◌, cond, not, List, [], ◌∷◌, ℕ, zero, suc, ◌+◌, ◌-◌, ◌*◌, ◌^◌, leb, ltb, eqb, length}
+use Rattle.std.specs.Prelude.{Bool, true, false, ◌&&◌, cond, not, List, [], ◌∷◌, ℕ, zero, suc, ◌+◌, ◌-◌, ◌*◌, ◌^◌}
+use Rattle.std.specs.Prelude.{leb, ltb, eqb, length}
 use Rattle.std.specs.Int.Count.{ones}
 use Rattle.section.specs.declared.Height.{Height}
 use Rattle.section.specs.declared.Section.{Section}

@@ -1,5 +1,6 @@
 -- A list of calls with what they give back, and what the claim comes to for one catalogue and disk. Definitions only.
-use Rattle.std.specs.Prelude.{◌&&◌, List, [], ◌∷◌, ◌≡◌, ◌-◌, ◌<◌, ◌≤◌, ℕ, eqb, neg_ℤ, pos, drop, length, replicate, take}
+use Rattle.std.specs.Prelude.{◌&&◌, List, [], ◌∷◌, ◌≡◌, ◌-◌, ◌<◌, ◌≤◌, ℕ, eqb, neg_ℤ, pos, drop, length, replicate}
+use Rattle.std.specs.Prelude.{take}
 use Rattle.layout.specs.Helping.{InCopyOrder}
 use Rattle.layout.specs.Layout.{Layout}
 use Rattle.layout.specs.Lists.{indicator, sum_of, times_in}

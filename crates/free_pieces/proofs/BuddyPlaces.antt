@@ -16,7 +16,8 @@ use Rattle.layout.proofs.MergePairs.{merge_pair_buddies}
 use Rattle.layout.proofs.Taking.{TakesOf, take_first_is, takes_test}
 use Rattle.layout.specs.Adding.{take_first, taken}
 use Rattle.layout.specs.Layout.{InOrder, has_height}
-use Rattle.layout.specs.Removing.{buddy_pair, fewer, has_free_buddy, is_buddy_above, is_taken, pair, with_buddy, with_lower}
+use Rattle.layout.specs.Removing.{buddy_pair, fewer, has_free_buddy, is_buddy_above, is_taken, pair, with_buddy}
+use Rattle.layout.specs.Removing.{with_lower}
 use Rattle.piece.proofs.Seen.{seen_get, seen-length}
 use Rattle.piece.specs.Packed.{no_piece, section_in, seen}
 use Rattle.piece.specs.declared.Piece.{Piece}

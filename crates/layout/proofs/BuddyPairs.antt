@@ -15,7 +15,8 @@ use Rattle.layout.specs.Adding.{Taken, nothing, take_first, taken}
 use Rattle.layout.specs.Choices.{BuddiesOf, BuddyAbove, NoBuddies, Takes}
 use Rattle.layout.specs.Layout.{File, Layout, has_height}
 use Rattle.layout.specs.Lists.{Each}
-use Rattle.layout.specs.Removing.{buddy_pair, fewer, has_free_buddy, is_buddy_above, is_taken, merge, merge_copies, pair}
+use Rattle.layout.specs.Removing.{buddy_pair, fewer, has_free_buddy, is_buddy_above, is_taken, merge, merge_copies}
+use Rattle.layout.specs.Removing.{pair}
 use Rattle.layout.specs.Removing.{with_buddy, with_lower}
 use Rattle.section.proofs.Booleans.{and_true, false_and}
 use Rattle.section.specs.Sections.{buddy_first, buddy_of, end_of, length_of}

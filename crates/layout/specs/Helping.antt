@@ -1,7 +1,8 @@
 -- Which removals let n blocks in (document 02, W4): the files whose length plus f is at least n, fewest copied blocks
 -- first, equal counts by lower id. `helping_ids` is the list, and `Helping` says the same of a list without sorting.
 -- Definitions only.
-use Rattle.std.specs.Prelude.{Bool, ◌&&◌, ◌||◌, false, true, List, [], ◌∷◌, map, ◌⊎◌, ◌≡◌, ◌+◌, ◌<◌, ◌≤◌, ℕ, eqb, leb, ltb, length}
+use Rattle.std.specs.Prelude.{Bool, ◌&&◌, ◌||◌, false, true, List, [], ◌∷◌, map, ◌⊎◌, ◌≡◌, ◌+◌, ◌<◌, ◌≤◌, ℕ, eqb}
+use Rattle.std.specs.Prelude.{leb, ltb, length}
 use Rattle.layout.specs.Layout.{File, Layout, file_blocks, find_file, found, free_blocks}
 use Rattle.layout.specs.Lists.{Each, Pairwise, sort_by, times_in}
 use Rattle.layout.specs.Removing.{copies_of, removal}

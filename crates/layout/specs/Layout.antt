@@ -1,5 +1,6 @@
 -- The layout of a disk: which file has which pieces, and which pieces are free. Definitions only.
-use Rattle.std.specs.Prelude.{◌≡◌, Bool, true, false, ◌&&◌, not, List, [], ◌∷◌, ◌++◌, ℕ, zero, suc, ◌+◌, ◌-◌, ◌^◌, ◌/◌, ◌%◌, ◌≤◌, leb, ltb, eqb}
+use Rattle.std.specs.Prelude.{◌≡◌, Bool, true, false, ◌&&◌, not, List, [], ◌∷◌, ◌++◌, ℕ, zero, suc, ◌+◌, ◌-◌, ◌^◌}
+use Rattle.std.specs.Prelude.{◌/◌, ◌%◌, ◌≤◌, leb, ltb, eqb}
 use Rattle.section.specs.declared.Section.{Section}
 use Rattle.section.specs.Sections.{section, length_of, end_of}
 use Rattle.layout.specs.Lists.{Pairwise, indicator, sum_next, sum_of}

@@ -11,7 +11,8 @@ use Rattle.looking.specs.Opened.{Opened}
 use Rattle.layout.proofs.Finding.{find_each, find_file_lem, found_find}
 use Rattle.layout.proofs.Lists.{each_imp, each_left}
 use Rattle.layout.proofs.LookingUp.{sound_rises}
-use Rattle.layout.specs.Layout.{File, OnDisk, block_count, file_blocks, file_pieces, find_file, found, has_file, is_found}
+use Rattle.layout.specs.Layout.{File, OnDisk, block_count, file_blocks, file_pieces, find_file, found, has_file}
+use Rattle.layout.specs.Layout.{is_found}
 use Rattle.layout.specs.Layout.{missing}
 use Rattle.layout.specs.Lists.{Each}
 use Rattle.layout.specs.LookingUp.{ByRisingId}

@@ -15,7 +15,8 @@ use Rattle.layout.proofs.Finding.{find_each, found_find, found_inserted}
 use Rattle.layout.proofs.Lists.{each_left}
 use Rattle.layout.proofs.Occurs.{blocks_within}
 use Rattle.layout.specs.Adding.{with_file}
-use Rattle.layout.specs.Layout.{File, Layout, file_blocks, file_pieces, find_file, found, free_blocks, has_file, is_found}
+use Rattle.layout.specs.Layout.{File, Layout, file_blocks, file_pieces, find_file, found, free_blocks, has_file}
+use Rattle.layout.specs.Layout.{is_found}
 use Rattle.layout.specs.Lists.{Each, done, more}
 use Rattle.layout.specs.Sound.{Sound, greatest_id}
 use Rattle.manager.proofs.AddFromSound.{add_from_sound}

@@ -1,7 +1,8 @@
 -- The plain book of document 01, with W1's replacement and W4's `which`. It sees C and the arguments of the calls, and
 -- never a catalogue, a block or an answer: what it shares with the manager is lists, numbers and the calls' arguments.
 -- Definitions only.
-use Rattle.std.specs.Prelude.{Bool, ◌&&◌, cond, false, not, true, List, [], ◌++◌, ◌∷◌, map, ◌*◌, ◌+◌, ◌-◌, ◌/◌, suc, zero, ℕ, eqb, leb, ltb, drop, length, replicate, take}
+use Rattle.std.specs.Prelude.{Bool, ◌&&◌, cond, false, not, true, List, [], ◌++◌, ◌∷◌, map, ◌*◌, ◌+◌, ◌-◌, ◌/◌, suc}
+use Rattle.std.specs.Prelude.{zero, ℕ, eqb, leb, ltb, drop, length, replicate, take}
 use Rattle.manager.specs.BookLetters.{book_rank}
 use Rattle.manager.specs.Call.{Call, add, breaks, check, free, read, remove, replace, which}
 

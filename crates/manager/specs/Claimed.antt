@@ -1,5 +1,6 @@
 -- What the claim about the whole list comes to for one version, catalogue and disk, and for one call. Definitions only.
-use Rattle.std.specs.Prelude.{Bool, ◌&&◌, List, ◌⊎◌, ◌≡◌, ◌+◌, ◌-◌, ◌<◌, ◌≤◌, ℕ, eqb, leb, drop, get_or, length, replicate}
+use Rattle.std.specs.Prelude.{Bool, ◌&&◌, List, ◌⊎◌, ◌≡◌, ◌+◌, ◌-◌, ◌<◌, ◌≤◌, ℕ, eqb, leb, drop, get_or, length}
+use Rattle.std.specs.Prelude.{replicate}
 use Rattle.std.specs.Int.Count.{ones}
 use Rattle.catalogue.specs.declared.Version.{Version}
 use Rattle.layout.specs.Carries.{carries}

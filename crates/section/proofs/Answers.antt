@@ -7,7 +7,8 @@ use native.Mathlib.Omega.{arith}
 use lib.Dec.{ltb, leb}
 use lib.Pow.{pow_pos}
 use borrow.Author.Tests.{eqb-true, leb-true, ltb-true, ltb-false, eq-eqb, le-leb, le-ltb}
-use Rattle.section.specs.Sections.{Among, Apart, Within, end_of, length_of, buddy_first, is_aligned, is_on_disk, has_buddy, shares_block, is_inside}
+use Rattle.section.specs.Sections.{Among, Apart, Within, end_of, length_of, buddy_first, is_aligned, is_on_disk}
+use Rattle.section.specs.Sections.{has_buddy, shares_block, is_inside}
 use Rattle.section.proofs.Booleans.{and_true, and_false, false_and}
 use Rattle.section.proofs.Buddies.{buddy_aligned}
 use Rattle.section.proofs.Multiples.{below_or_not}

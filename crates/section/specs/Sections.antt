@@ -1,7 +1,8 @@
 -- Sections of a disk in plain arithmetic: document 01, "Disk, sections, pieces". Definitions only.
 -- A section of height h is the 2 ^ h blocks from its first block on. Definitions ending in `First` are on block
 -- numbers.
-use Rattle.std.specs.Prelude.{◌≡◌, ◌⊎◌, Bool, cond, true, ◌&&◌, ℕ, suc, ◌+◌, ◌-◌, ◌*◌, ◌/◌, ◌%◌, ◌^◌, ◌<◌, ◌≤◌, eqb, ltb, leb}
+use Rattle.std.specs.Prelude.{◌≡◌, ◌⊎◌, Bool, cond, true, ◌&&◌, ℕ, suc, ◌+◌, ◌-◌, ◌*◌, ◌/◌, ◌%◌, ◌^◌, ◌<◌, ◌≤◌, eqb}
+use Rattle.std.specs.Prelude.{ltb, leb}
 use Rattle.section.specs.Heights.{NoHigher}
 use Rattle.section.specs.Limits.{greatest_disk}
 use Rattle.section.specs.declared.Section.{Section}

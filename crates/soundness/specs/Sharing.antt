@@ -1,5 +1,6 @@
 -- Pieces that are noted by their first blocks and masks, and compared a group at once. Definitions only.
-use Rattle.std.specs.Prelude.{Bool, ◌&&◌, ◌||◌, false, not, true, List, ◌≡◌, ℕ, zero, suc, ◌+◌, ◌*◌, ◌<◌, ◌≤◌, get_or, length}
+use Rattle.std.specs.Prelude.{Bool, ◌&&◌, ◌||◌, false, not, true, List, ◌≡◌, ℕ, zero, suc, ◌+◌, ◌*◌, ◌<◌, ◌≤◌}
+use Rattle.std.specs.Prelude.{get_or, length}
 use Rattle.section.specs.declared.Section.{Section}
 use Rattle.section.specs.Limits.{greatest_disk, height_count, most_files}
 use Rattle.section.specs.Sections.{Spans, end_of, section, shares_block}

@@ -9,11 +9,13 @@ use borrow.Author.Rules.{rules}
 use borrow.Author.Tests.{not-false, not-true}
 use Rattle.section.specs.Limits.{most_files}
 use Rattle.piece_lists.proofs.Arrays.{length_of_mapped}
-use Rattle.table.proofs.FilesMoving.{FilesMoving, moving_can, moving-end, moving-kept, moving_long, moving_more, moving-places, moving_start}
+use Rattle.table.proofs.FilesMoving.{FilesMoving, moving_can, moving-end, moving-kept, moving_long, moving_more}
+use Rattle.table.proofs.FilesMoving.{moving-places, moving_start}
 use Rattle.table.specs.declared.Table.{Table}
 use Rattle.settling.proofs.FreeBeside.{moving_beside, ready_beside, with_free}
 use Rattle.settling.proofs.MadeMerges.{made_in_order}
-use Rattle.settling.proofs.Settling.{settling_start, settling_ready, settling_copies, settling_more, settling_countable, settling_end}
+use Rattle.settling.proofs.Settling.{settling_start, settling_ready, settling_copies, settling_more}
+use Rattle.settling.proofs.Settling.{settling_countable, settling_end}
 use Rattle.settling.proofs.settle.Goals as goal
 use Rattle.settling.proofs.settle.Goals.{else-place_inside-list, then-place_inside-list}
 

@@ -7,7 +7,8 @@ use Rattle.section.specs.Limits.{greatest_disk}
 use Rattle.free_pieces.specs.Free.{free_of}
 use Rattle.free_pieces.proofs.GapSteps.{copies_gaps, copies-none, counting_gap}
 use Rattle.blocks.specs.DiskCode.{Copied}
-use Rattle.blocks.proofs.DiskCopies.{copied_none, copying_end, copying_more, copying_most, copying_place, copying_rest, copying_run, copying_start}
+use Rattle.blocks.proofs.DiskCopies.{copied_none, copying_end, copying_more, copying_most, copying_place}
+use Rattle.blocks.proofs.DiskCopies.{copying_rest, copying_run, copying_start}
 use Rattle.blocks.proofs.disk.copy_merge.Goals as goal
 
 pub buddy-buddy-requires : goal.buddy-buddy-requires

@@ -4,7 +4,8 @@ use native.Mathlib.Omega.{arith}
 use Rattle.layout.specs.Layout.{is_found}
 use Rattle.looking.proofs.LookedUp.{looked_first, looked_found, looked_fresh, opened_rises}
 use Rattle.calls.proofs.Refusing.{made_as}
-use Rattle.calls.proofs.AddJudged.{answer-add, can_add, refuse-empty, refuse-files, refuse_part, refuse-space, refuse_there}
+use Rattle.calls.proofs.AddJudged.{answer-add, can_add, refuse-empty, refuse-files, refuse_part, refuse-space}
+use Rattle.calls.proofs.AddJudged.{refuse_there}
 use Rattle.calls.proofs.adding.add_file.Goals as goal
 
 pub look_up-looked-requires : goal.look_up-looked-requires

@@ -5,7 +5,8 @@ use native.Mathlib.Omega.{arith}
 use Rattle.quality.specs.Letters.{rank_of}
 use Rattle.calls.proofs.ContentLetter.{letter_in_content, letter_of_content}
 use Rattle.calls.proofs.Refusing.{made_as}
-use Rattle.calls.proofs.ReplaceJudged.{can_exchange, compared_fits, compared_low, compared_some, refuse-not_above, refuse-space, refuse_unknown}
+use Rattle.calls.proofs.ReplaceJudged.{can_exchange, compared_fits, compared_low, compared_some, refuse-not_above}
+use Rattle.calls.proofs.ReplaceJudged.{refuse-space, refuse_unknown}
 use Rattle.calls.proofs.replacing.replace_found.Goals as goal
 
 pub bounds-content-6 : goal.bounds-content-6

@@ -4,7 +4,8 @@ use mathlib.Core.Path.{refl}
 use Prim.Native.Nat.{◌-◌}
 use native.Mathlib.Omega.{arith}
 use Rattle.table.specs.Tables.{layout_of}
-use Rattle.choosing.proofs.ChoosingSteps.{choosing_end, choosing_in, choosing_out, choosing_start, chosen_low, chosen_stored}
+use Rattle.choosing.proofs.ChoosingSteps.{choosing_end, choosing_in, choosing_out, choosing_start, chosen_low}
+use Rattle.choosing.proofs.ChoosingSteps.{chosen_stored}
 use Rattle.choosing.proofs.which.choices_for.Goals as goal
 
 pub loop-j-init : goal.loop-j-init

@@ -8,7 +8,8 @@ use Rattle.catalogue.specs.Encoding.{encode}
 use Rattle.catalogue.specs.Version.{OneOf, version_for, versions}
 use Rattle.catalogue.specs.declared.Version.{Version}
 use Rattle.section.specs.Limits.{block_size}
-use Rattle.event_disk.proofs.FormatOutcome.{format_done, format-empty, format-large, format_part, format_wrong, fresh-layout, fresh_rules, some_blocks}
+use Rattle.event_disk.proofs.FormatOutcome.{format_done, format-empty, format-large, format_part, format_wrong}
+use Rattle.event_disk.proofs.FormatOutcome.{fresh-layout, fresh_rules, some_blocks}
 use Rattle.event_disk.proofs.formatting.format.Goals as goal
 
 -- the version that a length picks is one of them

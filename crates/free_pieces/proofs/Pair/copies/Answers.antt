@@ -5,7 +5,8 @@ use Prim.Native.Nat.{◌+◌, ◌-◌}
 use native.Mathlib.Omega.{arith}
 use lib.ListN.{length}
 use Rattle.free_pieces.specs.Free.{free_of}
-use Rattle.free_pieces.proofs.GapSteps.{copies_gaps, copies-none, counting_end, counting_gap, counting_more, counting_start}
+use Rattle.free_pieces.proofs.GapSteps.{copies_gaps, copies-none, counting_end, counting_gap, counting_more}
+use Rattle.free_pieces.proofs.GapSteps.{counting_start}
 use Rattle.free_pieces.proofs.Pair.copies.Goals as goal
 
 pub returns-then-buddy-upper : goal.returns-then-buddy-upper

@@ -9,7 +9,8 @@ use lib.ListN.{length, length-set, set}
 use borrow.Author.Tests.{not-false, not-true}
 use Rattle.section.specs.Limits.{greatest_height}
 use Rattle.free_pieces.proofs.LaidMore.{laid_failed, laid_more}
-use Rattle.free_pieces.proofs.PiecesLaid.{onward, onward-end, onward_failed, onward_skip, onward_start, onward-take, stocked_with}
+use Rattle.free_pieces.proofs.PiecesLaid.{onward, onward-end, onward_failed, onward_skip, onward_start, onward-take}
+use Rattle.free_pieces.proofs.PiecesLaid.{stocked_with}
 use Rattle.free_pieces.specs.declared.Laid.{Laid}
 use Rattle.piece_lists.specs.declared.Pieces.{Pieces}
 use Rattle.free_pieces.proofs.allocating.allocate.Goals as goal

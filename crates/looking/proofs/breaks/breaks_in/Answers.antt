@@ -5,7 +5,8 @@ use borrow.Author.Rules.{rules}
 use Rattle.table.specs.Files.{entry_at}
 use Rattle.table.specs.Tables.{file_of, layout_of}
 use Rattle.looking.proofs.LookJudged.{breaks_found_lem, breaks_missing, breaks-zero}
-use Rattle.looking.proofs.LookedUp.{looked_count, looked_first, looked_found, looked_missing, looked_served, opened_rises}
+use Rattle.looking.proofs.LookedUp.{looked_count, looked_first, looked_found, looked_missing, looked_served}
+use Rattle.looking.proofs.LookedUp.{opened_rises}
 use Rattle.looking.proofs.breaks.breaks_in.Goals as goal
 
 pub returns-then-id-eq0 : goal.returns-then-id-eq0

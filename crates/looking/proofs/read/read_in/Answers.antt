@@ -5,7 +5,8 @@ use borrow.Author.Rules.{rules}
 use Rattle.table.specs.Files.{entry_at}
 use Rattle.table.specs.Tables.{file_of}
 use Rattle.looking.proofs.LookedUp.{looked_first, looked_fits, looked_found, looked_low, looked_missing, opened_rises}
-use Rattle.looking.proofs.ReadJudged.{read_answered, read_broken, read-empty, read_missing, read_past, read_whole, read_wrong, read-zero}
+use Rattle.looking.proofs.ReadJudged.{read_answered, read_broken, read-empty, read_missing, read_past, read_whole}
+use Rattle.looking.proofs.ReadJudged.{read_wrong, read-zero}
 use Rattle.looking.proofs.read.read_in.Goals as goal
 
 pub returns-then-disk-t : goal.returns-then-disk-t

@@ -12,7 +12,8 @@ use Rattle.catalogue.specs.Reading.{every, sound_piece}
 use Rattle.soundness.specs.Checking.{ids_rise}
 use Rattle.soundness.specs.Order.{in_order}
 use Rattle.soundness.proofs.NotedPieces.{disk_ends, noted-none}
-use Rattle.soundness.proofs.Sounding.{disk_unsound, sums_free_few, free_unsound, ids_unsound, not-not, shared_left, sums_disk, sums_unsound}
+use Rattle.soundness.proofs.Sounding.{disk_unsound, sums_free_few, free_unsound, ids_unsound, not-not, shared_left}
+use Rattle.soundness.proofs.Sounding.{sums_disk, sums_unsound}
 use Rattle.soundness.proofs.checks.is_sound.Goals as goal
 
 pub returns-then-not-sums_agree : goal.returns-then-not-sums_agree

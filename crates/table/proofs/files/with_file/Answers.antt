@@ -7,7 +7,8 @@ use lib.ListN.{drop, length, length-set, take}
 use borrow.Author.Rules.{rules}
 use borrow.Author.Tests.{le-leb, lt-leb}
 use Rattle.section.specs.Limits.{most_files}
-use Rattle.piece_lists.proofs.Arrays.{length_of_mapped, place_end, place_here, place_on, with_at-end, with_at_more, with_at_start}
+use Rattle.piece_lists.proofs.Arrays.{length_of_mapped, place_end, place_here, place_on, with_at-end, with_at_more}
+use Rattle.piece_lists.proofs.Arrays.{with_at_start}
 use Rattle.piece_lists.proofs.EachItem.{each_get, each_set}
 use Rattle.piece_lists.specs.Places.{first_place}
 use Rattle.table.proofs.FileLists.{layout-added, no_lower_id}

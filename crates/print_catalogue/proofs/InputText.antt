@@ -11,7 +11,7 @@ use lib.Seq.{length-take-le, take_all}
 use borrow.Author.Tests.{eq-eqb, ne_eqb, not-false, not-true}
 use Rattle.catalogue.proofs.Reading.{read_sound}
 use Rattle.catalogue.proofs.Roomy.{roomy, served, version_of-one}
-use Rattle.catalogue.specs.Reading.{read_catalogue, sound}
+use Rattle.catalogue.specs.Reading.{read_catalogue}
 use Rattle.catalogue.specs.Version.{OneOf, version2, version_of, versions}
 use Rattle.layout.proofs.SoundHeights.{sound_higher}
 use Rattle.section.specs.Limits.{height_count}

@@ -1,2 +1,3 @@
 -- The laws of the text for an input.
 pub mod InputText
+pub mod ReadText

@@ -30,7 +30,7 @@ pub extern "C" fn evdisk_add(cat: &mut [u8], disk: &mut [u8], id: u16, content: 
         ≡ (add_outcome id content.now cat.old disk.old).catalogue }
     ensures disk { disk.new
         ≡ (add_outcome id content.now cat.old disk.old).disk }
-    ensures content { content.now ≡ content.now }
+    ensures content { content.exit.now ≡ content.entry.now }
     ensures listed { AsPromised
         (perform (add id content.now) cat.old disk.old)
         (returned result cat.new disk.new []) }
@@ -64,7 +64,7 @@ pub extern "C" fn evdisk_replace(cat: &mut [u8], disk: &mut [u8], id: u16, conte
         ≡ (replace_outcome id content.now cat.old disk.old).catalogue }
     ensures disk { disk.new
         ≡ (replace_outcome id content.now cat.old disk.old).disk }
-    ensures content { content.now ≡ content.now }
+    ensures content { content.exit.now ≡ content.entry.now }
     ensures limit { CodeWithinCarries cat.old id result }
     ensures listed { AsPromised
         (perform (replace id content.now) cat.old disk.old)

@@ -15,7 +15,7 @@ pub fn add(cat: &mut [u8], disk: &mut [u8], id: u16, content: &[u8]) -> Answer
         ≡ (add_outcome id content.now cat.old disk.old).catalogue }
     ensures disk { disk.new
         ≡ (add_outcome id content.now cat.old disk.old).disk }
-    ensures content { content.now ≡ content.now }
+    ensures content { content.exit.now ≡ content.entry.now }
 {
     let o = open(cat);
     if !o.entered {
@@ -55,7 +55,7 @@ pub fn replace(cat: &mut [u8], disk: &mut [u8], id: u16, content: &[u8]) -> Answ
         ≡ (replace_outcome id content.now cat.old disk.old).catalogue }
     ensures disk { disk.new
         ≡ (replace_outcome id content.now cat.old disk.old).disk }
-    ensures content { content.now ≡ content.now }
+    ensures content { content.exit.now ≡ content.entry.now }
     ensures limit { WithinCarries cat.old id (reply_of result) }
 {
     let o = open(cat);

@@ -13,9 +13,9 @@ pub extern "C" fn evdisk_format(cat: &mut [u8], disk: &[u8]) -> i64
     ensures answer { result ≡ code_of (format_outcome cat.old disk.now).reply }
     ensures catalogue { cat.new
         ≡ (format_outcome cat.old disk.now).catalogue }
-    ensures disk { disk.now ≡ (format_outcome cat.old disk.now).disk }
+    ensures disk { disk.exit.now ≡ (format_outcome cat.old disk.now).disk }
     ensures listed { AsPromised (format_outcome cat.old disk.now)
-        (returned result cat.new disk.now []) }
+        (returned result cat.new disk.exit.now []) }
 {
     let a = event_disk::format(cat, disk);
     code(a)

@@ -13,15 +13,15 @@ use super::codes::code;
 pub extern "C" fn evdisk_read(cat: &[u8], disk: &[u8], id: u16, first: u64, out: &mut [u8]) -> i64
     ensures answer { result
         ≡ code_of (read_outcome id first out.old cat.now disk.now).reply }
-    ensures catalogue { cat.now
+    ensures catalogue { cat.exit.now
         ≡ (read_outcome id first out.old cat.now disk.now).catalogue }
-    ensures disk { disk.now
+    ensures disk { disk.exit.now
         ≡ (read_outcome id first out.old cat.now disk.now).disk }
     ensures output { out.new
         ≡ (read_outcome id first out.old cat.now disk.now).output }
     ensures listed { AsPromised
         (perform (read id first out.old) cat.now disk.now)
-        (returned result cat.now disk.now out.new) }
+        (returned result cat.exit.now disk.exit.now out.new) }
 {
     let a = event_disk::read(cat, disk, id, first, out);
     code(a)
@@ -32,9 +32,9 @@ pub extern "C" fn evdisk_read(cat: &[u8], disk: &[u8], id: u16, first: u64, out:
 #[unsafe(no_mangle)]
 pub extern "C" fn evdisk_breaks(cat: &[u8], id: u16) -> i64
     ensures answer { result ≡ code_of (breaks_outcome id cat.now).reply }
-    ensures catalogue { cat.now ≡ (breaks_outcome id cat.now).catalogue }
+    ensures catalogue { cat.exit.now ≡ (breaks_outcome id cat.now).catalogue }
     ensures limit { CodeWithinOnes cat.now id result }
-    ensures listed { AsPromisedBeside (perform (breaks id) cat.now) result cat.now [] }
+    ensures listed { AsPromisedBeside (perform (breaks id) cat.now) result cat.exit.now [] }
 {
     let a = event_disk::breaks(cat, id);
     code(a)
@@ -45,7 +45,7 @@ pub extern "C" fn evdisk_breaks(cat: &[u8], id: u16) -> i64
 #[unsafe(no_mangle)]
 pub extern "C" fn evdisk_which(cat: &[u8], n: u64, places: &mut [u16]) -> i64
     ensures answer { result ≡ code_of (which_outcome n places.old cat.now).reply }
-    ensures catalogue { cat.now
+    ensures catalogue { cat.exit.now
         ≡ (which_outcome n places.old cat.now).catalogue }
     ensures output { places.new
         ≡ (which_outcome n places.old cat.now).output }
@@ -60,8 +60,8 @@ pub extern "C" fn evdisk_which(cat: &[u8], n: u64, places: &mut [u16]) -> i64
 #[unsafe(no_mangle)]
 pub extern "C" fn evdisk_free(cat: &[u8]) -> i64
     ensures answer { result ≡ code_of (free_outcome cat.now).reply }
-    ensures catalogue { cat.now ≡ (free_outcome cat.now).catalogue }
-    ensures listed { AsPromisedBeside (perform free cat.now) result cat.now [] }
+    ensures catalogue { cat.exit.now ≡ (free_outcome cat.now).catalogue }
+    ensures listed { AsPromisedBeside (perform free cat.now) result cat.exit.now [] }
 {
     let a = event_disk::free(cat);
     code(a)
@@ -71,11 +71,11 @@ pub extern "C" fn evdisk_free(cat: &[u8]) -> i64
 #[unsafe(no_mangle)]
 pub extern "C" fn evdisk_check(cat: &[u8], disk: &[u8]) -> i64
     ensures answer { result ≡ code_of (check_outcome cat.now disk.now).reply }
-    ensures catalogue { cat.now
+    ensures catalogue { cat.exit.now
         ≡ (check_outcome cat.now disk.now).catalogue }
-    ensures disk { disk.now ≡ (check_outcome cat.now disk.now).disk }
+    ensures disk { disk.exit.now ≡ (check_outcome cat.now disk.now).disk }
     ensures listed { AsPromised (perform check cat.now disk.now)
-        (returned result cat.now disk.now []) }
+        (returned result cat.exit.now disk.exit.now []) }
 {
     let a = event_disk::check(cat, disk);
     code(a)

@@ -12,7 +12,7 @@ pub fn format(cat: &mut [u8], disk: &[u8]) -> Answer
     ensures answer { reply_of result ≡ (format_outcome cat.old disk.now).reply }
     ensures catalogue { cat.new
         ≡ (format_outcome cat.old disk.now).catalogue }
-    ensures disk { disk.now ≡ (format_outcome cat.old disk.now).disk }
+    ensures disk { disk.exit.now ≡ (format_outcome cat.old disk.now).disk }
 {
     let version = Version::of_length(cat.len());
     if cat.len() != version.bytes {

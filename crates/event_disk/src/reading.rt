@@ -11,9 +11,9 @@ use looking::Answer;
 pub fn read(cat: &[u8], disk: &[u8], id: u16, first: u64, out: &mut [u8]) -> Answer
     ensures answer { reply_of result
         ≡ (read_outcome id first out.old cat.now disk.now).reply }
-    ensures catalogue { cat.now
+    ensures catalogue { cat.exit.now
         ≡ (read_outcome id first out.old cat.now disk.now).catalogue }
-    ensures disk { disk.now
+    ensures disk { disk.exit.now
         ≡ (read_outcome id first out.old cat.now disk.now).disk }
     ensures output { out.new
         ≡ (read_outcome id first out.old cat.now disk.now).output }
@@ -29,7 +29,7 @@ pub fn read(cat: &[u8], disk: &[u8], id: u16, first: u64, out: &mut [u8]) -> Ans
 // Answers how many breaks a file has: how many pieces in page order do not start right after the one before them.
 pub fn breaks(cat: &[u8], id: u16) -> Answer
     ensures answer { reply_of result ≡ (breaks_outcome id cat.now).reply }
-    ensures catalogue { cat.now ≡ (breaks_outcome id cat.now).catalogue }
+    ensures catalogue { cat.exit.now ≡ (breaks_outcome id cat.now).catalogue }
     ensures limit { WithinOnes cat.now id (reply_of result) }
 {
     let o = open(cat);
@@ -44,7 +44,7 @@ pub fn breaks(cat: &[u8], id: u16) -> Answer
 // zeros, and answers how many; or that n blocks fit already.
 pub fn which(cat: &[u8], n: u64, places: &mut [u16]) -> Answer
     ensures answer { reply_of result ≡ (which_outcome n places.old cat.now).reply }
-    ensures catalogue { cat.now
+    ensures catalogue { cat.exit.now
         ≡ (which_outcome n places.old cat.now).catalogue }
     ensures output { places.new
         ≡ (which_outcome n places.old cat.now).output }
@@ -60,7 +60,7 @@ pub fn which(cat: &[u8], n: u64, places: &mut [u16]) -> Answer
 // Answers how many blocks are free.
 pub fn free(cat: &[u8]) -> Answer
     ensures answer { reply_of result ≡ (free_outcome cat.now).reply }
-    ensures catalogue { cat.now ≡ (free_outcome cat.now).catalogue }
+    ensures catalogue { cat.exit.now ≡ (free_outcome cat.now).catalogue }
 {
     let o = open(cat);
     if !o.entered {
@@ -74,9 +74,9 @@ pub fn free(cat: &[u8]) -> Answer
 // Answers how many blocks the disk has, if it is as long as the catalogue says.
 pub fn check(cat: &[u8], disk: &[u8]) -> Answer
     ensures answer { reply_of result ≡ (check_outcome cat.now disk.now).reply }
-    ensures catalogue { cat.now
+    ensures catalogue { cat.exit.now
         ≡ (check_outcome cat.now disk.now).catalogue }
-    ensures disk { disk.now ≡ (check_outcome cat.now disk.now).disk }
+    ensures disk { disk.exit.now ≡ (check_outcome cat.now disk.now).disk }
 {
     let o = open(cat);
     if !o.entered {

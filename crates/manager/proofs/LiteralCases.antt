@@ -9,17 +9,14 @@ use lib.ListN.{length, replicate}
 use Rattle.catalogue.specs.Encoding.{big_endian, encode, entries_bytes, entry_bytes, header_bytes, pair_bytes}
 use Rattle.catalogue.specs.Encoding.{pairs_bytes, used_bytes}
 use Rattle.catalogue.specs.Reading.{every, file_read, is_sound, judged, pairwise, read_catalogue, read_entries}
-use Rattle.catalogue.specs.Reading.{read_entry}
-use Rattle.catalogue.specs.Reading.{read_from, read_header, read_layout, read_pair, read_pairs}
+use Rattle.catalogue.specs.Reading.{read_entry, read_from, read_header, read_layout, read_pair, read_pairs}
 use Rattle.catalogue.specs.Version.{version_for}
 use Rattle.layout.specs.Adding.{allocate, take_first, take_piece}
 use Rattle.layout.specs.Helping.{candidates_of, helping_ids}
-use Rattle.layout.specs.Layout.{block_run, blocks_of, breaks_of, file_pieces, find_file, fresh_layout, in_range}
-use Rattle.layout.specs.Layout.{pieces_from}
+use Rattle.layout.specs.Layout.{block_run, blocks_of, breaks_of, file_pieces, find_file, fresh_layout, in_range, pieces_from}
 use Rattle.layout.specs.Lists.{insert_by, sort_by}
-use Rattle.layout.specs.Removing.{buddy_pair, copies_from, copies_of, copy_run, insert_all, layout_after}
-use Rattle.layout.specs.Removing.{lowest_two, merge}
-use Rattle.layout.specs.Removing.{merge_all, merge_pair, next_merge, release, removal, without_file}
+use Rattle.layout.specs.Removing.{buddy_pair, copies_from, copies_of, copy_run, insert_all, layout_after, lowest_two}
+use Rattle.layout.specs.Removing.{merge, merge_all, merge_pair, next_merge, release, removal, without_file}
 use Rattle.manager.specs.Call.{Call, add, breaks, check, free, read, remove, replace, which}
 use Rattle.manager.specs.Conditions.{Outcome, answered, first_refusal, outcome, refused}
 use Rattle.manager.specs.Disk.{cut_pages, join_pages, pages_on, run_copies, write_pages}

@@ -3,12 +3,12 @@
 
 use model::Answer;
 
+use crate::both::{told, Difference};
 use crate::breaks::compare_breaks;
 use crate::call::{Call, Lent};
 use crate::guarded::compare_from;
 use crate::listed::compare_listed;
 use crate::sides::Side;
-use crate::twin::{told, Difference};
 use crate::watch::require;
 
 /// What was made apart from a call before it, or is to be made after it.

@@ -3,8 +3,8 @@
 use event_disk::most_breaks;
 use model::{Answer, BlockMap};
 
+use crate::both::{told, Difference};
 use crate::fewest::least;
-use crate::twin::{told, Difference};
 use crate::watch::require;
 
 /// How often the drive seeks between the first of these blocks and the last: after each it stands at the next block.

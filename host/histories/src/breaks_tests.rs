@@ -2,11 +2,11 @@
 
 use model::{Answer, Version, BLOCK};
 
+use crate::both::Difference;
 use crate::call::{Call, Lent};
 use crate::history::History;
 use crate::numbers::Numbers;
 use crate::tally::Tally;
-use crate::twin::Difference;
 use crate::watch::follow;
 
 fn step(history: &mut History, call: Call, tally: &mut Tally) -> Result<Answer, Difference> {
@@ -45,13 +45,13 @@ fn the_book_sees_an_answer_past_the_limit() {
     let mut history = four_files(Version::SMALL);
     for (id, limit) in [(5, 1), (6, 1), (7, 2), (8, 0)] {
         for answer in (0..5).map(Ok).chain([Err(5), Err(6)]) {
-            let followed = follow(&mut history.book, &Call::Breaks { id }, &[], &history.twin, answer);
+            let followed = follow(&mut history.book, &Call::Breaks { id }, &[], &history.both, answer);
             assert_eq!(followed.is_ok(), answer.is_ok_and(|breaks| breaks <= limit), "{id}: {answer:?}");
         }
     }
     for (id, refusal) in [(0, 5), (9, 6)] {
         for answer in [Ok(0), Ok(1), Err(5), Err(6)] {
-            let followed = follow(&mut history.book, &Call::Breaks { id }, &[], &history.twin, answer);
+            let followed = follow(&mut history.book, &Call::Breaks { id }, &[], &history.both, answer);
             assert_eq!(followed.is_ok(), answer == Err(refusal), "{id}: {answer:?}");
         }
     }

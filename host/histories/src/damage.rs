@@ -2,6 +2,7 @@
 
 use model::{Catalogue, Version, BLOCK, MOST_FILES};
 
+use crate::both::{told, Both, Difference};
 use crate::call::{Call, Lent};
 use crate::history::MOST_WHOLE;
 use crate::layouts::any_sound;
@@ -9,7 +10,6 @@ use crate::letters;
 use crate::numbers::Numbers;
 use crate::spoil::spoil;
 use crate::tally::Tally;
-use crate::twin::{told, Difference, Twin};
 use crate::twists::twisted;
 use crate::wild::wild_which;
 use crate::{lengths, staircases};
@@ -65,10 +65,10 @@ pub fn run(seed: u64, count: u64) -> bool {
 fn in_version(version: Version, count: u64, numbers: &mut Numbers, counts: &mut Counts) -> Result<(), Difference> {
     let mut sizes = SIZES.to_vec();
     sizes.push(Size { blocks: version.most_blocks, disk: ANY_SIZE, share: 5 });
-    let mut twins: Vec<Twin> = sizes.iter().map(|size| twin_of(version, size.disk, numbers)).collect();
+    let mut by_size: Vec<Both> = sizes.iter().map(|size| filled(version, size.disk, numbers)).collect();
     while counts.catalogues < count {
         let size = numbers.pick_by(sizes.iter().map(|size| size.share));
-        one_catalogue(sizes[size], &mut twins[size], numbers, counts)?;
+        one_catalogue(sizes[size], &mut by_size[size], numbers, counts)?;
     }
     let most = staircases::run(version, numbers, &mut counts.tally);
     counts.untouched += most.map_err(|difference| format!("the removals that copy most: {difference}"))?;
@@ -85,10 +85,11 @@ impl Counts {
     }
 }
 
-fn twin_of(version: Version, blocks: usize, numbers: &mut Numbers) -> Twin {
-    let mut twin = Twin::new(version, blocks);
-    twin.fill_disk(blocks, numbers);
-    twin
+/// Both, with any bytes on disks of so many blocks.
+fn filled(version: Version, blocks: usize, numbers: &mut Numbers) -> Both {
+    let mut both = Both::new(version, blocks);
+    both.fill_disk(blocks, numbers);
+    both
 }
 
 /// The bytes of a catalogue in the buffer of a version, which need not be its own.
@@ -99,8 +100,8 @@ pub fn bytes_in(version: Version, catalogue: &Catalogue) -> Vec<u8> {
 }
 
 /// Makes a sound catalogue, damages it mostly, and makes all calls on it.
-fn one_catalogue(size: Size, twin: &mut Twin, numbers: &mut Numbers, counts: &mut Counts) -> Result<(), Difference> {
-    let version = twin.version;
+fn one_catalogue(size: Size, both: &mut Both, numbers: &mut Numbers, counts: &mut Counts) -> Result<(), Difference> {
+    let version = both.version;
     let blocks = numbers.within(1, size.blocks) as u32;
     let catalogue = any_sound(version, blocks, numbers);
     let mut bytes = bytes_in(version, &catalogue);
@@ -125,9 +126,9 @@ fn one_catalogue(size: Size, twin: &mut Twin, numbers: &mut Numbers, counts: &mu
     let lent = Lent::right(version, size.disk.min(blocks as usize));
     let mut content = Vec::new();
     for call in calls {
-        twin.set_catalogue(&bytes);
+        both.set_catalogue(&bytes);
         call.stamp(&mut content, counts.tally.calls);
-        one_call(twin, lent, &call, &content, meaning.as_ref(), &mut counts.tally)
+        one_call(both, lent, &call, &content, meaning.as_ref(), &mut counts.tally)
             .map_err(|difference| format!("{call}, C {blocks}: {difference}"))?;
     }
     Ok(())
@@ -135,7 +136,7 @@ fn one_catalogue(size: Size, twin: &mut Twin, numbers: &mut Numbers, counts: &mu
 
 /// Makes a call on both. It is refused with 3 exactly if the bytes mean no catalogue.
 pub fn one_call(
-    twin: &mut Twin,
+    both: &mut Both,
     lent: Lent,
     call: &Call,
     content: &[u8],
@@ -143,16 +144,16 @@ pub fn one_call(
     tally: &mut Tally,
 ) -> Result<(), Difference> {
     tally.begin(call);
-    let answer = twin.call(call, lent, content)?;
+    let answer = both.call(call, lent, content)?;
     tally.end(call, answer);
     if (answer == Err(3)) != meaning.is_none() {
         return Err(format!("{} though the bytes mean {meaning:?}", told(answer)));
     }
     if let (Some(id), Ok(copied), Some(catalogue)) = (call.removed(), answer, meaning) {
         let n = catalogue.entry(id).map_or(0, |entry| u64::from(entry.blocks));
-        tally.count_removal(call, twin.merges().check(u64::from(catalogue.free_blocks()), n, copied)?);
+        tally.count_removal(call, both.merges().check(u64::from(catalogue.free_blocks()), n, copied)?);
     }
-    tally.count_found(call, answer, twin);
+    tally.count_found(call, answer, both);
     Ok(())
 }
 

@@ -4,7 +4,7 @@ use std::sync::OnceLock;
 
 use model::{Division, Version};
 
-use crate::twin::Difference;
+use crate::both::Difference;
 use crate::watch::require;
 
 /// The least number of pieces of so many blocks, which some disk has.
@@ -61,11 +61,11 @@ mod tests {
     fn told(history: &mut History, files: [&[(u32, u32)]; 2], free: &[(u32, u32)]) -> Result<(), Difference> {
         let entry = |id, blocks, file| Entry { id, blocks, pairs: pairs(file) };
         let entries = vec![entry(3, 5, files[0]), entry(4, 2, files[1])];
-        let version = history.twin.version;
+        let version = history.both.version;
         let catalogue = Catalogue { version, blocks: 16, entries, free: pairs(free) };
-        history.twin.set_catalogue(&bytes(&catalogue));
-        let told = compare_state(&history.book, &history.twin);
-        assert_eq!(compare_touched(&history.book, &history.twin), told);
+        history.both.set_catalogue(&bytes(&catalogue));
+        let told = compare_state(&history.book, &history.both);
+        assert_eq!(compare_touched(&history.book, &history.both), told);
         assert_eq!(sound(&bytes(&catalogue)).is_some(), told.is_ok());
         told
     }

@@ -5,7 +5,7 @@ use std::ops::Range;
 
 use model::BLOCK;
 
-use crate::twin::Difference;
+use crate::both::Difference;
 
 /// Items before and after a lent buffer, which no call may change.
 pub const GUARD: usize = 61;

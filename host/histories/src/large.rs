@@ -7,16 +7,17 @@
 //! changed no byte is found at once of the catalogue and the output, and of the disk by the window and at the
 //! intervals.
 
-use model::{Version, BLOCK, FITS_ALREADY, MOST_FILES};
+use model::{Version, BLOCK, MOST_FILES};
 
+use crate::both::Difference;
 use crate::call::Call;
 use crate::history::History;
+use crate::landmarks::landmarks;
 use crate::mixes::{ids, Mix};
 use crate::numbers::Numbers;
 use crate::random::{any_step, step};
 use crate::tally::Tally;
 use crate::touched::ROUND;
-use crate::twin::Difference;
 
 /// After so many calls of a list all files are listed, by their removals, and the disks are compared whole.
 const INTERVAL: usize = 25;
@@ -50,7 +51,7 @@ struct Counts {
 /// Runs the lists, more often if more calls are asked for. False if there was a difference, or too little was seen.
 pub fn run(seed: u64, calls: u64, numbers: &mut Numbers) -> bool {
     let mut counts = Counts::default();
-    let outcome = landmarks(numbers, &mut counts)
+    let outcome = run_landmarks(numbers, &mut counts)
         .map_err(|difference| format!("the list of landmarks, {difference}"))
         .and_then(|()| (0..calls.div_ceil(ONCE)).try_for_each(|_| all_lists(numbers, &mut counts)));
     if let Err(difference) = outcome {
@@ -95,45 +96,11 @@ fn one_list(
     Ok(())
 }
 
-/// Calls on the greatest disk that each run has: a file of 300,000 pages, which is replaced by one of the most pieces
-/// and by one of one block, one of the most pieces, one of all blocks. The most pieces follow each other where the
-/// whole disk was free. Where block 0 was not, they lie at (1,1), (2,2), (4,4) and so on, and are read longest first.
-fn landmarks(numbers: &mut Numbers, counts: &mut Counts) -> Result<(), Difference> {
+/// The calls of `landmarks.rs`, with their answers.
+fn run_landmarks(numbers: &mut Numbers, counts: &mut Counts) -> Result<(), Difference> {
     let most = Version::LARGE.most_blocks;
     let mut history = History::new(Version::LARGE, most, numbers);
-    let add = |id, pages| Call::Add { id, length: pages * BLOCK, letter: b'R' };
-    let replace = |id, pages, letter| Call::Replace { id, length: pages * BLOCK, letter };
-    let read = |id, pages| Call::Read { id, first: 0, length: pages * BLOCK };
-    let which = |n: usize| Call::Which { n: n as u64, places: MOST_FILES };
-    let fits = FITS_ALREADY as usize;
-    let calls = [
-        (Call::Format, Ok(most)),
-        (add(1, 300_000), Ok(300_000)),
-        (read(1, 300_000), Ok(300_000)),
-        (which(most - 300_000), Ok(fits)),
-        (which(most - 299_999), Ok(1)),
-        (which(most), Ok(1)),
-        (which(most + 1), Ok(0)),
-        (replace(1, most + 1, b'D'), Err(11)),
-        (replace(1, most - 1, b'D'), Ok(0)),
-        (Call::Breaks { id: 1 }, Ok(0)),
-        (replace(1, most + 1, b'R'), Err(13)),
-        (replace(1, most + 1, b'?'), Err(12)),
-        (replace(1, 1, b'M'), Ok(0)),
-        (Call::Remove { id: 1 }, Ok(0)),
-        (add(3, 1), Ok(1)),
-        (add(2, most - 1), Ok(most - 1)),
-        (Call::Breaks { id: 2 }, Ok(19)),
-        (add(4, 1), Err(11)),
-        (which(1), Ok(2)),
-        (which(2), Ok(1)),
-        (Call::Remove { id: 2 }, Ok(0)),
-        (Call::Remove { id: 3 }, Ok(0)),
-        (add(65_535, most + 1), Err(11)),
-        (add(65_535, most), Ok(most)),
-        (Call::Breaks { id: 65_535 }, Ok(0)),
-    ];
-    for (call, expected) in calls {
+    for (call, expected) in landmarks(most) {
         let right = history.right();
         let number = counts.tally.calls + 1;
         let answer = history.step(&call, right, number, &mut counts.tally).map_err(|why| format!("{call}: {why}"))?;

@@ -2,12 +2,12 @@
 
 use model::{Version, BLOCK, MOST_FILES};
 
+use crate::both::{told, Both, Difference};
 use crate::call::{Call, Lent};
 use crate::history::MOST_WHOLE;
 use crate::letters;
 use crate::numbers::Numbers;
 use crate::tally::Tally;
-use crate::twin::{told, Difference, Twin};
 
 /// The disks: the smallest, some, and those around the greatest of the small catalogue.
 const DISKS: [usize; 6] = [1, 2, 21, 4095, 4096, 4097];
@@ -59,8 +59,8 @@ fn greatest_disks(version: Version, tally: &mut Tally) -> Result<(), Difference>
 
 /// One disk with one file, and all lengths of all buffers.
 fn on_disk(version: Version, blocks: usize, numbers: &mut Numbers, tally: &mut Tally) -> Result<(), Difference> {
-    let mut twin = Twin::new(version, longest_disk(version) + 1);
-    twin.fill_disk(blocks, numbers);
+    let mut both = Both::new(version, longest_disk(version) + 1);
+    both.fill_disk(blocks, numbers);
     let right = Lent::right(version, blocks);
     let held = blocks.div_ceil(3);
     let mut content = Vec::new();
@@ -68,23 +68,23 @@ fn on_disk(version: Version, blocks: usize, numbers: &mut Numbers, tally: &mut T
     for call in [Call::Format, add] {
         tally.begin(&call);
         call.stamp(&mut content, 0);
-        tally.end(&call, twin.call(&call, right, &content)?);
+        tally.end(&call, both.call(&call, right, &content)?);
     }
-    let (formatted, disk) = (twin.catalogue().to_vec(), twin.disk(blocks).to_vec());
+    let (formatted, disk) = (both.catalogue().to_vec(), both.disk(blocks).to_vec());
     for lent in lent_lengths(version, blocks) {
         for call in calls(blocks - held, held, lent == right) {
             call.stamp(&mut content, tally.calls);
             let told = |difference| format!("{call} ({lent}): {difference}");
             tally.begin(&call);
-            let answer = twin.call(&call, lent, &content).map_err(told)?;
+            let answer = both.call(&call, lent, &content).map_err(told)?;
             tally.end(&call, answer);
-            tally.count_found(&call, answer, &twin);
+            tally.count_found(&call, answer, &both);
             if (answer == Err(1)) != Version::of_length(lent.cat).is_none() {
                 return Err(told(format!("{answer:?} by the length of the catalogue")));
             }
             if answer.is_ok() && call.changes() {
-                twin.set_catalogue(&formatted);
-                twin.set_disk(&disk);
+                both.set_catalogue(&formatted);
+                both.set_disk(&disk);
             }
         }
     }

@@ -5,9 +5,9 @@ use std::collections::BTreeSet;
 use event_disk::Refusal;
 use model::{Answer, Entry, BLOCK, FITS_ALREADY};
 
+use crate::both::{told, Difference};
 use crate::guarded::compare_from;
 use crate::history::MOST_WHOLE;
-use crate::twin::{told, Difference};
 use crate::watch::require;
 
 /// Makes the removal of each of these files, by itself, on copies of a catalogue: what it answers, and the id. What the

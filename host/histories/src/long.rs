@@ -3,13 +3,13 @@
 
 use model::{Version, MOST_FILES};
 
+use crate::both::Difference;
 use crate::call::Call;
 use crate::history::History;
 use crate::mixes::{ids, Mix};
 use crate::numbers::Numbers;
 use crate::random::{any_step, step};
 use crate::tally::{Event, Tally};
-use crate::twin::Difference;
 use crate::watch::require;
 
 /// The least length of a list, in calls that the book follows.
@@ -171,10 +171,10 @@ impl List {
 
     /// What is printed of the list.
     fn column(&self) -> Vec<Event> {
-        let History { twin, blocks, followed, .. } = &self.history;
+        let History { both, blocks, followed, .. } = &self.history;
         let others = self.tally.calls - followed;
         let mut column: Vec<Event> = [
-            ("version", u64::from(twin.version.number)),
+            ("version", u64::from(both.version.number)),
             ("blocks", *blocks as u64),
             ("calls of the list", *followed),
             ("others: format, lengths, spoilt catalogues", others),

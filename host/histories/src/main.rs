@@ -6,6 +6,7 @@ mod alphabet;
 mod apart;
 mod arguments;
 mod before;
+mod both;
 mod breaks;
 #[cfg(test)]
 mod breaks_tests;
@@ -14,6 +15,7 @@ mod damage;
 mod fewest;
 mod guarded;
 mod history;
+mod landmarks;
 mod large;
 mod layouts;
 mod lengths;
@@ -39,7 +41,6 @@ mod tally;
 #[cfg(test)]
 mod tests;
 mod touched;
-mod twin;
 mod twists;
 mod watch;
 #[cfg(test)]

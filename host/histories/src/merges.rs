@@ -3,7 +3,7 @@
 
 use model::{buddies_first, two_lowest, Merge, Move};
 
-use crate::twin::Difference;
+use crate::both::Difference;
 use crate::watch::require;
 
 /// What a removal merges, or that of a replacement. That of no file merges nothing.

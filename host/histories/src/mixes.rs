@@ -136,7 +136,7 @@ fn next_id(ids: &[u16], book: &Book, numbers: &mut Numbers) -> u16 {
 
 /// The file to remove: any, or the one for which the buddies that move have most blocks.
 fn next_removal(mix: Mix, held: &[u16], history: &History, numbers: &mut Numbers) -> u16 {
-    let (cat, disk) = (history.twin.catalogue(), history.twin.disk(history.blocks));
+    let (cat, disk) = (history.both.catalogue(), history.both.disk(history.blocks));
     let moves = |id: &u16| model::removal_moves(cat, disk, *id).unwrap_or_default();
     let moved = |id: &u16| moves(id).iter().map(|moved| moved.from.len()).sum::<usize>();
     match mix {

@@ -2,13 +2,13 @@
 
 use model::{Version, BLOCK};
 
+use crate::both::Difference;
 use crate::call::{Call, Lent};
 use crate::history::{History, MOST_WHOLE};
 use crate::large;
 use crate::mixes::{ids, next_call, Mix, MIXES};
 use crate::numbers::Numbers;
 use crate::tally::{Event, Tally};
-use crate::twin::Difference;
 use crate::wild::{wild_call, wrong_lengths};
 
 /// Disks that each run has, if the version has them.
@@ -130,7 +130,7 @@ fn wrongly_lent(
 
 /// A call on a catalogue that is not sound for the time of the call.
 fn spoilt(history: &mut History, ids: &[u16], numbers: &mut Numbers, tally: &mut Tally) -> Result<(), Difference> {
-    let mut bytes = history.twin.catalogue().to_vec();
+    let mut bytes = history.both.catalogue().to_vec();
     loop {
         let place = if numbers.one_in(4) { numbers.within(0, bytes.len() - 1) } else { numbers.within(0, 60) };
         bytes[place] ^= 1 << numbers.within(0, 7);

@@ -2,12 +2,12 @@
 
 use model::{Answer, Book, Version, BLOCK};
 
+use crate::both::Difference;
 use crate::call::{stamp, Call};
 use crate::history::{History, MOST_WHOLE};
 use crate::letters;
 use crate::numbers::Numbers;
 use crate::tally::Tally;
-use crate::twin::Difference;
 use crate::watch::follow;
 
 fn replace(id: u16, pages: usize, letter: u8) -> Call {
@@ -43,7 +43,7 @@ fn the_book_sees_a_wrong_answer() {
     ] {
         call.stamp(&mut content, 1);
         for answer in [Ok(0), Err(6), Err(8), Err(10), Err(11), Err(12), Err(13)] {
-            let followed = follow(&mut history.book.clone(), &call, &content, &history.twin, answer);
+            let followed = follow(&mut history.book.clone(), &call, &content, &history.both, answer);
             assert_eq!(followed.is_ok(), answer == right, "{call}: {answer:?}");
         }
     }
@@ -68,8 +68,8 @@ fn a_wrong_block_at_the_touched_ones_is_found_at_once() {
     let files = [(1, 64), (2, 32), (3, 64)];
     let mut history = disk(2 * MOST_WHOLE, &files);
     assert_eq!(step(&mut history, replace(1, 512, b'Q')), Ok(Ok(32)));
-    let moved = history.twin.merges().moves().next().expect("a buddy moves").clone();
-    let catalogue = model::sound(history.twin.catalogue()).expect("it is sound");
+    let moved = history.both.merges().moves().next().expect("a buddy moves").clone();
+    let catalogue = model::sound(history.both.catalogue()).expect("it is sound");
     let new = catalogue.entry(1).expect("it is there").pairs[0].blocks();
     let far = moved.from.start - 600;
     for (call, answer) in [(replace(1, 512, b'Q'), Ok(32)), (replace(1, 512, b'D'), Err(13))] {
@@ -77,7 +77,7 @@ fn a_wrong_block_at_the_touched_ones_is_found_at_once() {
         let blocks = [(moved.from.start + 40, true), (moved.to.end - 1, true), (new.start - 1, placed), (far, false)];
         for (block, found) in blocks {
             let mut history = disk(2 * MOST_WHOLE, &files);
-            history.twin.change_proved(block);
+            history.both.change_proved(block);
             let step = step(&mut history, call);
             assert_eq!(step.is_err(), found, "{call}, block {block}");
             assert!(found || step == Ok(answer));

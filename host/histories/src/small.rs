@@ -8,12 +8,12 @@
 use model::{Version, BLOCK, MOST_FILES};
 
 use crate::alphabet::{Alphabet, ALPHABETS, LETTERS};
+use crate::both::Difference;
 use crate::call::Call;
 use crate::history::History;
 use crate::numbers::Numbers;
 use crate::states::{State, States, IDS};
 use crate::tally::{Event, Tally};
-use crate::twin::Difference;
 
 /// The search over the lists of one alphabet.
 struct Search {

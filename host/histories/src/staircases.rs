@@ -2,6 +2,7 @@
 
 use model::{Version, BLOCK};
 
+use crate::both::{Both, Difference};
 use crate::call::Call;
 use crate::damage::{bytes_in, one_call};
 use crate::history::History;
@@ -9,7 +10,6 @@ use crate::layouts::staircase;
 use crate::letters;
 use crate::numbers::Numbers;
 use crate::tally::Tally;
-use crate::twin::{Difference, Twin};
 
 /// Makes the calls that copy 2^top - 1 blocks, and so as many as they may. The disks have up to the greatest C, and
 /// those that are long are compared by the blocks that the call touched, and then whole once. Gives the number of
@@ -23,12 +23,12 @@ pub fn run(version: Version, numbers: &mut Numbers, tally: &mut Tally) -> Result
         let mut history = History::new(version, blocks, numbers);
         let right = history.right();
         for call in [Call::Remove { id: 1 }, Call::Replace { id: 1, length: 2 * BLOCK, letter: b'Q' }] {
-            history.twin.set_catalogue(&bytes_in(version, &catalogue));
-            set_letter(&mut history.twin, catalogue.entries[0].pairs[0].first as usize, b'D');
+            history.both.set_catalogue(&bytes_in(version, &catalogue));
+            set_letter(&mut history.both, catalogue.entries[0].pairs[0].first as usize, b'D');
             call.stamp(&mut content, tally.calls);
             let before = tally.at_bound();
-            one_call(&mut history.twin, right, &call, &content, Some(&catalogue), tally)?;
-            history.twin.compare_disks()?;
+            one_call(&mut history.both, right, &call, &content, Some(&catalogue), tally)?;
+            history.both.compare_disks()?;
             if tally.at_bound() != before + 1 {
                 return Err(format!("{call}: on {blocks} blocks the limit is not reached"));
             }
@@ -39,8 +39,8 @@ pub fn run(version: Version, numbers: &mut Numbers, tally: &mut Tally) -> Result
 }
 
 /// Gives a block the quality letter of a first page.
-fn set_letter(twin: &mut Twin, block: usize, letter: u8) {
-    let mut start = twin.disk(block + 1).to_vec();
+fn set_letter(both: &mut Both, block: usize, letter: u8) {
+    let mut start = both.disk(block + 1).to_vec();
     start[block * BLOCK + letters::PLACE] = letter;
-    twin.set_disk(&start);
+    both.set_disk(&start);
 }

@@ -4,8 +4,8 @@ use std::collections::{HashMap, HashSet};
 
 use model::BLOCK;
 
+use crate::both::Difference;
 use crate::history::History;
-use crate::twin::Difference;
 
 /// The ids of all files.
 pub const IDS: [u16; 3] = [1, 2, 3];
@@ -43,10 +43,10 @@ impl States {
     }
 
     fn key(&mut self, history: &History) -> Key {
-        let cat = history.twin.catalogue();
+        let cat = history.both.catalogue();
         let used = cat.iter().rposition(|&byte| byte != 0).map_or(0, |last| last + 1);
         let mut disk = Vec::new();
-        for block in history.twin.disk(history.blocks).chunks_exact(BLOCK) {
+        for block in history.both.disk(history.blocks).chunks_exact(BLOCK) {
             let name = *self.names.entry(block.to_vec()).or_insert_with(|| {
                 self.blocks_named.push(block.to_vec());
                 self.blocks_named.len() as u16 - 1

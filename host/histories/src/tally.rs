@@ -2,12 +2,12 @@
 
 use model::Answer;
 
+use crate::both::Both;
 use crate::breaks::Breaks;
 use crate::call::{Call, GIVEN, NAMES};
 use crate::lists::Lists;
 use crate::merges::Copied;
 use crate::removals::Removals;
-use crate::twin::Twin;
 
 /// Something that has to be seen, and how often it was.
 pub type Event = (String, u64);
@@ -57,10 +57,10 @@ impl Tally {
     }
 
     /// Counts what the last call found, if it is an answer of breaks or which.
-    pub fn count_found(&mut self, call: &Call, answer: Answer, twin: &Twin) {
+    pub fn count_found(&mut self, call: &Call, answer: Answer, both: &Both) {
         match (call, answer) {
-            (Call::Breaks { id }, Ok(number)) => self.breaks.note(number, twin.most_breaks(*id)),
-            (Call::Which { places, .. }, Ok(number)) => self.lists.note(number, twin.list(*places)),
+            (Call::Breaks { id }, Ok(number)) => self.breaks.note(number, both.most_breaks(*id)),
+            (Call::Which { places, .. }, Ok(number)) => self.lists.note(number, both.list(*places)),
             _ => {}
         }
     }

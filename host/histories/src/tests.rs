@@ -2,13 +2,13 @@
 
 use model::{sound, write, Answer, Book, Catalogue, Move, Version, BLOCK};
 
+use crate::both::Difference;
 use crate::call::{stamp, Call, Lent};
 use crate::history::{History, MOST_WHOLE};
 use crate::long::List;
 use crate::numbers::Numbers;
 use crate::tally::Tally;
 use crate::touched::ROUND;
-use crate::twin::Difference;
 use crate::watch::{compare_state, follow};
 
 /// A disk with id 3 of 3 blocks: on 5 blocks it is at (0,2) (4,1).
@@ -36,14 +36,14 @@ pub fn bytes(catalogue: &Catalogue) -> Vec<u8> {
 fn the_book_sees_a_wrong_page() {
     for version in Version::ALL {
         let mut history = history(version, 5);
-        assert_eq!(compare_state(&history.book, &history.twin), Ok(()));
+        assert_eq!(compare_state(&history.book, &history.both), Ok(()));
         for (block, held) in [true, true, false, false, true].into_iter().enumerate() {
-            let before = history.twin.disk(5).to_vec();
+            let before = history.both.disk(5).to_vec();
             let mut disk = before.clone();
             disk[block * BLOCK + 511] ^= 1;
-            history.twin.set_disk(&disk);
-            assert_eq!(compare_state(&history.book, &history.twin).is_err(), held, "block {block}");
-            history.twin.set_disk(&before);
+            history.both.set_disk(&disk);
+            assert_eq!(compare_state(&history.book, &history.both).is_err(), held, "block {block}");
+            history.both.set_disk(&before);
         }
     }
 }
@@ -52,17 +52,17 @@ fn the_book_sees_a_wrong_page() {
 fn the_book_sees_a_wrong_catalogue() {
     for version in Version::ALL {
         let mut history = history(version, 5);
-        let right = sound(history.twin.catalogue()).expect("it is sound");
+        let right = sound(history.both.catalogue()).expect("it is sound");
         let mut other_id = right.clone();
         other_id.entries[0].id = 4;
         let mut swapped = right.clone();
         std::mem::swap(&mut swapped.entries[0].pairs[0], &mut swapped.free[0]);
         for wrong in [other_id, swapped, model::BlockMap::fresh(version, 5).catalogue()] {
-            history.twin.set_catalogue(&bytes(&wrong));
-            assert!(sound(&bytes(&wrong)).is_some() && compare_state(&history.book, &history.twin).is_err());
+            history.both.set_catalogue(&bytes(&wrong));
+            assert!(sound(&bytes(&wrong)).is_some() && compare_state(&history.book, &history.both).is_err());
         }
-        history.twin.set_catalogue(&bytes(&right));
-        assert_eq!(compare_state(&history.book, &history.twin), Ok(()));
+        history.both.set_catalogue(&bytes(&right));
+        assert_eq!(compare_state(&history.book, &history.both), Ok(()));
     }
 }
 
@@ -70,12 +70,12 @@ fn the_book_sees_a_wrong_catalogue() {
 fn the_book_sees_a_wrong_answer() {
     let mut history = history(Version::SMALL, 5);
     let book = &mut history.book;
-    assert_eq!(follow(book, &Call::Free, &[], &history.twin, Ok(2)), Ok(()));
+    assert_eq!(follow(book, &Call::Free, &[], &history.both, Ok(2)), Ok(()));
     for answer in [Ok(3), Err(2)] {
-        assert!(follow(book, &Call::Free, &[], &history.twin, answer).is_err());
-        assert!(follow(book, &Call::Breaks { id: 3 }, &[], &history.twin, answer).is_err());
-        assert!(follow(&mut book.clone(), &Call::Remove { id: 3 }, &[], &history.twin, Err(6)).is_err());
-        assert!(follow(&mut Book::new(9), &Call::Remove { id: 3 }, &[], &history.twin, answer).is_err());
+        assert!(follow(book, &Call::Free, &[], &history.both, answer).is_err());
+        assert!(follow(book, &Call::Breaks { id: 3 }, &[], &history.both, answer).is_err());
+        assert!(follow(&mut book.clone(), &Call::Remove { id: 3 }, &[], &history.both, Err(6)).is_err());
+        assert!(follow(&mut Book::new(9), &Call::Remove { id: 3 }, &[], &history.both, answer).is_err());
     }
 }
 
@@ -86,7 +86,7 @@ fn a_stray_block_is_found() {
     for (blocks, at_once) in [(MOST_WHOLE, true), (MOST_WHOLE + 1, false)] {
         let mut history = history(Version::LARGE, blocks);
         assert_eq!(history.compare_whole(), Ok(()));
-        history.twin.change_proved(blocks - 1);
+        history.both.change_proved(blocks - 1);
         assert!(history.compare_whole().is_err());
         let calls = (1..=ROUND + 1).find(|_| step(&mut history, Call::Free).is_err()).expect("it is found");
         assert_eq!(calls == 1, at_once, "found at call {calls} on {blocks} blocks");
@@ -109,11 +109,11 @@ fn long_disk(files: &[(u16, usize)]) -> History {
 #[test]
 fn a_wrong_block_at_the_touched_ones_is_found_at_once() {
     let one = long_disk(&[(1, 1)]);
-    let first = sound(one.twin.catalogue()).expect("it is sound").entries[0].pairs[0].first as usize;
+    let first = sound(one.both.catalogue()).expect("it is sound").entries[0].pairs[0].first as usize;
     // The second file goes to the block after the first one's.
     for (block, found) in [(first - 1, false), (first, true), (first + 2, true), (first + 3, false)] {
         let mut history = long_disk(&[(1, 1)]);
-        history.twin.change_proved(block);
+        history.both.change_proved(block);
         assert_eq!(
             step(&mut history, Call::Add { id: 2, length: BLOCK, letter: b'R' }).is_err(),
             found,
@@ -123,7 +123,7 @@ fn a_wrong_block_at_the_touched_ones_is_found_at_once() {
     // The removal copies the second file's page to the block after the third one's.
     for (block, found) in [(first - 2, false), (first + 1, true), (first + 4, true), (first + 5, false)] {
         let mut history = long_disk(&[(1, 1), (2, 1), (3, 1)]);
-        history.twin.change_proved(block);
+        history.both.change_proved(block);
         assert_eq!(step(&mut history, Call::Remove { id: 1 }).is_err(), found, "block {block}");
     }
 }
@@ -134,13 +134,13 @@ fn a_wrong_free_block_of_a_move_is_found_at_once() {
     let half_free = || long_disk(&[(1, 64), (2, 32), (3, 64)]);
     let mut history = half_free();
     assert_eq!(step(&mut history, Call::Remove { id: 1 }), Ok(Ok(32)));
-    let moves: Vec<&Move> = history.twin.merges().moves().collect();
+    let moves: Vec<&Move> = history.both.merges().moves().collect();
     let [Move { from, to, copies }] = moves[..] else { panic!("one buddy moves") };
     assert_eq!((from.len(), copies.last()), (64, Some(&(from.start + 31, to.start + 31))));
     for (block, found) in [(from.start + 40, true), (to.start + 40, true), (to.end - 1, true), (from.start - 2, false)]
     {
         let mut history = half_free();
-        history.twin.change_proved(block);
+        history.both.change_proved(block);
         assert_eq!(step(&mut history, Call::Remove { id: 1 }).is_err(), found, "block {block}");
     }
 }

@@ -4,10 +4,10 @@ use std::collections::BTreeSet;
 
 use model::{Answer, Book, Entry, Pair, BLOCK, FITS_ALREADY};
 
+use crate::both::{told, Both, Difference};
 use crate::breaks::compare_limits;
 use crate::call::Call;
 use crate::fewest::compare_fewest;
-use crate::twin::{told, Difference, Twin};
 
 /// What has to hold, or how it does not.
 pub fn require(holds: bool, otherwise: impl FnOnce() -> String) -> Result<(), Difference> {
@@ -19,7 +19,7 @@ pub fn require(holds: bool, otherwise: impl FnOnce() -> String) -> Result<(), Di
 }
 
 /// Makes the call in the book too and compares the answer. The call had buffers of the right lengths.
-pub fn follow(book: &mut Book, call: &Call, content: &[u8], twin: &Twin, answer: Answer) -> Result<(), Difference> {
+pub fn follow(book: &mut Book, call: &Call, content: &[u8], both: &Both, answer: Answer) -> Result<(), Difference> {
     let expected = match *call {
         Call::Format => {
             *book = Book::new(book.check());
@@ -38,12 +38,12 @@ pub fn follow(book: &mut Book, call: &Call, content: &[u8], twin: &Twin, answer:
     require(expected == answer, || format!("the manager gave {}, the book {}", told(answer), told(expected)))?;
     match (*call, answer) {
         (Call::Read { id, first, length }, Ok(_)) => {
-            require(book.read(id, first, length) == Ok(twin.output(length)), || "output is not the book's".into())
+            require(book.read(id, first, length) == Ok(both.output(length)), || "output is not the book's".into())
         }
         (Call::Breaks { id }, Ok(breaks)) => compare_limits(breaks, book.pages(id)),
         (Call::Which { n, places }, Ok(_)) => {
             let ids = book.which(n, places).ok().flatten().unwrap_or_default();
-            require(has_ids(twin.list(places), &ids), || "the listed ids are not the book's".into())
+            require(has_ids(both.list(places), &ids), || "the listed ids are not the book's".into())
         }
         _ => Ok(()),
     }
@@ -57,22 +57,22 @@ pub fn has_ids(list: &[u16], ids: &BTreeSet<u16>) -> bool {
 
 /// What holds of catalogue and disk after every list of calls: ids, n, pieces and pages are the book's, and the pieces
 /// are as few as they can be.
-pub fn compare_state(book: &Book, twin: &Twin) -> Result<(), Difference> {
-    compare_lines(book, twin, |_| true)
+pub fn compare_state(book: &Book, both: &Both) -> Result<(), Difference> {
+    compare_lines(book, both, |_| true)
 }
 
 /// The same, with the pages of those files only of which the last call touched a block.
-pub fn compare_touched(book: &Book, twin: &Twin) -> Result<(), Difference> {
-    compare_lines(book, twin, |entry| twin.touched(entry))
+pub fn compare_touched(book: &Book, both: &Both) -> Result<(), Difference> {
+    compare_lines(book, both, |entry| both.touched(entry))
 }
 
 /// Ids, n and pieces of all lines, and the pages of some. The number of pieces comes first, since the second
 /// implementation takes no catalogue for sound that has another.
-fn compare_lines(book: &Book, twin: &Twin, with_pages: impl Fn(&Entry) -> bool) -> Result<(), Difference> {
-    compare_fewest(twin.catalogue())?;
-    let catalogue = model::sound(twin.catalogue()).ok_or("the catalogue is not sound")?;
-    require(catalogue.version == twin.version, || "the version is another".into())?;
-    let disk = twin.disk(catalogue.blocks as usize);
+fn compare_lines(book: &Book, both: &Both, with_pages: impl Fn(&Entry) -> bool) -> Result<(), Difference> {
+    compare_fewest(both.catalogue())?;
+    let catalogue = model::sound(both.catalogue()).ok_or("the catalogue is not sound")?;
+    require(catalogue.version == both.version, || "the version is another".into())?;
+    let disk = both.disk(catalogue.blocks as usize);
     require(u64::from(catalogue.blocks) == book.check(), || "C is not the book's".into())?;
     let ids = catalogue.entries.iter().map(|e| (e.id, u64::from(e.blocks)));
     require(ids.eq(book.lines().map(|(id, pages)| (id, (pages.len() / BLOCK) as u64))), || {

@@ -4,12 +4,12 @@ use std::collections::BTreeSet;
 
 use model::{Answer, Version, BLOCK, FITS_ALREADY, MOST_FILES};
 
+use crate::both::Difference;
 use crate::call::{Call, Lent};
 use crate::guarded::Guarded;
 use crate::history::{History, MOST_WHOLE};
 use crate::numbers::Numbers;
 use crate::tally::Tally;
-use crate::twin::Difference;
 use crate::watch::{follow, has_ids};
 
 fn which(n: u64) -> Call {
@@ -40,7 +40,7 @@ fn case_6(version: Version) -> History {
 /// The answer for n, and the start of the list.
 fn asked(history: &mut History, n: u64) -> (Answer, [u16; 4]) {
     let answer = step(history, which(n)).expect("no difference");
-    (answer, *history.twin.list(MOST_FILES).first_chunk().expect("the list has more places"))
+    (answer, *history.both.list(MOST_FILES).first_chunk().expect("the list has more places"))
 }
 
 #[test]
@@ -81,7 +81,7 @@ fn the_book_sees_a_wrong_answer() {
     for (n, right) in [(10, Ok(FITS_ALREADY)), (11, Ok(3)), (13, Ok(1)), (14, Ok(0)), (0, Err(8))] {
         assert_eq!(step(&mut history, which(n)), Ok(right));
         for answer in [Ok(FITS_ALREADY), Ok(0), Ok(1), Ok(2), Ok(3), Ok(64), Err(8), Err(11), Err(14)] {
-            let followed = follow(&mut history.book, &which(n), &[], &history.twin, answer);
+            let followed = follow(&mut history.book, &which(n), &[], &history.both, answer);
             assert_eq!(followed.is_ok(), answer == right, "{n}: {answer:?}");
         }
     }
@@ -95,9 +95,9 @@ fn the_book_sees_other_ids() {
     book.remove(9).expect("it is there");
     book.add(8, &[0; BLOCK]).expect("there is space");
     assert_eq!(step(&mut history, which(11)), Ok(Ok(3)));
-    assert!(follow(&mut book, &which(11), &[], &history.twin, Ok(3)).is_err());
+    assert!(follow(&mut book, &which(11), &[], &history.both, Ok(3)).is_err());
     assert_eq!(step(&mut history, which(12)), Ok(Ok(2)));
-    assert_eq!(follow(&mut book, &which(12), &[], &history.twin, Ok(2)), Ok(()));
+    assert_eq!(follow(&mut book, &which(12), &[], &history.both, Ok(2)), Ok(()));
 }
 
 #[test]

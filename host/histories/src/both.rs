@@ -1,4 +1,4 @@
-//! The proved manager and the second implementation side by side, on buffers of their own.
+//! The proved manager and the second implementation, given the same calls, on buffers of their own.
 
 use model::{Answer, Entry, Version, BLOCK};
 
@@ -15,7 +15,7 @@ use crate::touched::Touched;
 pub type Difference = String;
 
 /// Both implementations, with equal bytes before and after every call.
-pub struct Twin {
+pub struct Both {
     pub version: Version,
     proved: Side,
     second: Side,
@@ -26,16 +26,16 @@ pub struct Twin {
     touched: Option<Touched>,
 }
 
-impl Twin {
+impl Both {
     /// Both with buffers for at most so many blocks; all bytes are compared after every call.
-    pub fn new(version: Version, most_blocks: usize) -> Twin {
+    pub fn new(version: Version, most_blocks: usize) -> Both {
         let (proved, second) = (Side::new(most_blocks), Side::new(most_blocks));
-        Twin { version, proved, second, before: Default::default(), merges: Default::default(), touched: None }
+        Both { version, proved, second, before: Default::default(), merges: Default::default(), touched: None }
     }
 
     /// The same, but of the disks only the blocks of `Touched` are compared after a call.
-    pub fn in_parts(version: Version, most_blocks: usize) -> Twin {
-        Twin { touched: Some(Touched::new(most_blocks)), ..Twin::new(version, most_blocks) }
+    pub fn in_parts(version: Version, most_blocks: usize) -> Both {
+        Both { touched: Some(Touched::new(most_blocks)), ..Both::new(version, most_blocks) }
     }
 
     /// Fills the disks with any bytes.

@@ -5,3 +5,5 @@ pub mod BreakSteps
 pub mod EachItem
 pub mod Insertion
 pub mod PutAmong
+pub mod ItemsMoved
+pub mod FoundPlaces

@@ -5,9 +5,11 @@
 #![tactic(auto)]
 
 use piece::Piece;
+pub use places::{insert_at, remove_at};
 use section::Height;
 
 mod breaks;
+mod places;
 mod sorting;
 
 // Few pieces: no more than a file of a sound layout has, or its free space.

@@ -4,11 +4,13 @@
 // is passed on without a call that copies it.
 #![tactic(auto)]
 
+pub use few::in_places;
 use piece::Piece;
 pub use places::{insert_at, remove_at};
 use section::Height;
 
 mod breaks;
+mod few;
 mod places;
 mod sorting;
 

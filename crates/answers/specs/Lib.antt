@@ -1,0 +1,2 @@
+-- Definitions only: what the answers of the code stand for.
+pub mod Answers

@@ -4,6 +4,10 @@
 // is passed on without a call that copies it.
 #![tactic(auto)]
 
+ghost use Rattle.std.specs.Prelude.{◌≡◌, ◌≤◌, take};
+ghost use Rattle.piece.specs.Packed.{seen};
+ghost use Rattle.piece_lists.specs.Few.{list_of, piece_places};
+
 pub use few::in_places;
 use piece::Piece;
 pub use places::{insert_at, remove_at};
@@ -24,6 +28,15 @@ pub struct Pieces {
 impl Pieces {
     // A place for a piece of each height: the lengths of a file's pieces are distinct.
     pub const PLACES: usize = Height::COUNT as usize;
+
+    // The pieces of the list.
+    pub fn as_slice(&self) -> &[Piece]
+        requires count_le_piece_places { self.now.count ≤ piece_places }
+        ensures words { result.now ≡ take self.now.count self.now.items }
+        ensures listed { seen result.now ≡ list_of self.now }
+    {
+        &self.items[..self.count]
+    }
 }
 
 // The orders of pieces: the one of the bytes, by rising first block, and page order, by falling length.

@@ -1,3 +1,2 @@
--- Definitions only: what the answers of the code stand for, and what the calls that only look ask for and promise.
-pub mod Answers
+-- Definitions only: what the calls that only look ask for and promise.
 pub mod Opened

@@ -4,10 +4,10 @@ ghost use Rattle.layout.specs.Layout.{find_file};
 ghost use Rattle.table.specs.Tables.{layout_of};
 ghost use Rattle.manager.specs.Conditions.{file_checks, first_refusal, reply_unless};
 ghost use Rattle.manager.specs.Outcomes.{breaks_found};
-ghost use Rattle.looking.specs.Answers.{reply_of};
+ghost use Rattle.answers.specs.Answers.{reply_of};
 ghost use Rattle.looking.specs.Opened.{Opened};
 
-use crate::Answer;
+use answers::{Answer, Answered, Refusal};
 use table::{FileAt, Table};
 
 // How many breaks a file has.
@@ -17,16 +17,16 @@ pub fn breaks_in(t: Table, id: u16) -> Answer
         ≡ reply_unless (first_refusal (file_checks id (layout_of t))) (breaks_found (find_file id (layout_of t).files)) }
 {
     if id == 0 {
-        return Answer::IdZero;
+        return Err(Refusal::IdZero);
     }
     let looked = t.look_up(id as u32);
     let file = looked.file;
     let FileAt::Place(i) = file else {
-        return Answer::IdMissing;
+        return Err(Refusal::IdMissing);
     };
     let files = t.files;
     let e = files[i];
     let list = e.pieces;
     let n = list.breaks();
-    Answer::Number(n)
+    Ok(Answered::Number(n))
 }

@@ -2,10 +2,10 @@
 ghost use Rattle.std.specs.Prelude.{◌≡◌, List, [], ◌∷◌, ℕ, length};
 ghost use Rattle.table.specs.Tables.{layout_of};
 ghost use Rattle.manager.specs.Conditions.{answered, condition, first_refusal, reply_unless, wrong_disk};
-ghost use Rattle.looking.specs.Answers.{reply_of};
+ghost use Rattle.answers.specs.Answers.{reply_of};
 ghost use Rattle.looking.specs.Opened.{Opened};
 
-use crate::Answer;
+use answers::{Answer, Answered, Refusal};
 use section::Section;
 use table::Table;
 
@@ -17,7 +17,7 @@ pub fn check_in(bytes: usize, t: Table) -> Answer
         ≡ reply_unless (first_refusal (condition 4 (wrong_disk (layout_of t) d) ∷ [])) (answered (layout_of t).blocks) }
 {
     if bytes != Section::BLOCK_SIZE * (t.blocks as usize) {
-        return Answer::DiskLength;
+        return Err(Refusal::DiskLength);
     }
-    Answer::Number(t.blocks)
+    Ok(Answered::Number(t.blocks))
 }

@@ -1,10 +1,10 @@
 // The pages of a file.
 ghost use Rattle.std.specs.Prelude.{◌≡◌, List, ℕ};
 ghost use Rattle.table.specs.Tables.{layout_of};
-ghost use Rattle.looking.specs.Answers.{reply_of};
+ghost use Rattle.answers.specs.Answers.{reply_of};
 ghost use Rattle.looking.specs.Opened.{Opened, read_on};
 
-use crate::Answer;
+use answers::{Answer, Answered, Refusal};
 use section::Section;
 use table::{FileAt, Table};
 
@@ -17,32 +17,32 @@ pub fn read_in(disk: &[u8], t: Table, id: u16, first: u64, out: &mut [u8]) -> An
         → out.new ≡ (read_on (layout_of t) id first out.old cat disk.now).output }
 {
     if disk.len() != Section::BLOCK_SIZE * (t.blocks as usize) {
-        return Answer::DiskLength;
+        return Err(Refusal::DiskLength);
     }
     if id == 0 {
-        return Answer::IdZero;
+        return Err(Refusal::IdZero);
     }
     let looked = t.look_up(id as u32);
     let file = looked.file;
     let FileAt::Place(i) = file else {
-        return Answer::IdMissing;
+        return Err(Refusal::IdMissing);
     };
     if out.len() == 0 {
-        return Answer::BufferLength;
+        return Err(Refusal::BufferLength);
     }
     if out.len() % Section::BLOCK_SIZE != 0 {
-        return Answer::BufferLength;
+        return Err(Refusal::BufferLength);
     }
     let files = t.files;
     let e = files[i];
     let n = pieces::blocks_of(e) as usize;
     let count = out.len() / Section::BLOCK_SIZE;
     if count > n {
-        return Answer::PastEnd;
+        return Err(Refusal::PastEnd);
     }
     if first > (n - count) as u64 {
-        return Answer::PastEnd;
+        return Err(Refusal::PastEnd);
     }
     blocks::read_pages(disk, e, first as usize, out);
-    Answer::Number(count as u32)
+    Ok(Answered::Number(count as u32))
 }

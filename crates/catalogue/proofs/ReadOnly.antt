@@ -23,10 +23,10 @@ use Rattle.layout.specs.Moves.{same}
 use Rattle.section.proofs.Lengths.{length-of-height}
 use Rattle.section.specs.Heights.{height_of}
 use Rattle.section.specs.Limits.{greatest_disk}
-use Rattle.section.specs.declared.Measured.{Measured}
-use Rattle.section.specs.declared.Measured.TheVariants as Measured·
 use Rattle.section.specs.Sections.{length_of}
+use Rattle.section.specs.declared.Height.{Height}
 use Rattle.section.specs.declared.Section.{Section}
+use Rattle.std.specs.Prelude.{Option, Some, None}
 
 pub got_value : {A : Type 0} (a b : A) (r s : List ℕ) → got a r ≡ got b s → a ≡ b
 got_value a b r s e = cc
@@ -39,20 +39,20 @@ pub then_inv : {A B : Type 0} (m : Read A) (k : A → List ℕ → Read B) (b : 
 then_inv (got a r') k b r e = (a, r', refl, e)
 then_inv bad k b r e = absurd (let z : ◌≡◌ {A = ℕ} 0 1 = cc in omega arith)
 
-section_inv : (x : ℕ) (m : Measured) (r : List ℕ) (s : Section) (r' : List ℕ) → section_read x m r ≡ got s r'
-    → (x ≡ s.first) × (m ≡ Measured·.Height s.height) × (r ≡ r')
-section_inv x (Measured·.Height h) r s r' e = go (ltb x greatest_disk) e
+section_inv : (x : ℕ) (m : Option Height) (r : List ℕ) (s : Section) (r' : List ℕ) → section_read x m r ≡ got s r'
+    → (x ≡ s.first) × (m ≡ Some s.height) × (r ≡ r')
+section_inv x (Some h) r s r' e = go (ltb x greatest_disk) e
   where
     go : (t : Bool) → cond t (got (record { first = x; height = h }) r) bad ≡ got s r'
-        → (x ≡ s.first) × (Measured·.Height h ≡ Measured·.Height s.height) × (r ≡ r')
+        → (x ≡ s.first) × (Some h ≡ Some s.height) × (r ≡ r')
     go true e =
         let same = got_value (record { first = x; height = h }) s r r' e in (
           ap (λ (z : Section). z.first) same,
-          ap (λ (z : Section). Measured·.Height z.height) same,
+          ap (λ (z : Section). Some z.height) same,
           got_rest (record { first = x; height = h }) s r r' e,
         )
     go false e = absurd (let z : ◌≡◌ {A = ℕ} 0 1 = cc in omega arith)
-section_inv x Measured·.NoLength r s r' e = absurd (let z : ◌≡◌ {A = ℕ} 0 1 = cc in omega arith)
+section_inv x None r s r' e = absurd (let z : ◌≡◌ {A = ℕ} 0 1 = cc in omega arith)
 
 module _ (w : ℕ) where
   pair_inv : (bs : List ℕ) (s : Section) (r : List ℕ) → Bytes bs → read_pair w bs ≡ got s r

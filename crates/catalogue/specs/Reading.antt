@@ -2,12 +2,10 @@
 -- Nobody has to believe this file: the theorem `reading_iff` says that a layout is read exactly if the bytes are
 -- its encoding and it is sound.
 use Rattle.std.specs.Prelude.{Bool, true, false, ◌&&◌, cond, not, List, [], ◌∷◌, ℕ, zero, suc, ◌+◌, ◌-◌, ◌*◌, ◌^◌}
-use Rattle.std.specs.Prelude.{leb, ltb, eqb, length}
+use Rattle.std.specs.Prelude.{leb, ltb, eqb, length, Option, Some, None}
 use Rattle.std.specs.Int.Count.{ones}
 use Rattle.section.specs.declared.Height.{Height}
 use Rattle.section.specs.declared.Section.{Section}
-use Rattle.section.specs.declared.Measured.{Measured}
-use Rattle.section.specs.declared.Measured.TheVariants as Measured·
 use Rattle.section.specs.Heights.{height_of}
 use Rattle.section.specs.Limits.{greatest_disk, most_files}
 use Rattle.section.specs.Sections.{is_on_disk, length_of, shares_block}
@@ -85,9 +83,9 @@ abbrev pub read_field : ℕ → List ℕ → Read ℕ
 read_field w bs = read_from w 0 bs
 
 -- a section, if its length is one, and its first block can be one of a disk
-abbrev pub section_read : ℕ → Measured → List ℕ → Read Section
-section_read x (Measured·.Height h) r = cond (ltb x greatest_disk) (got (record { first = x; height = h }) r) bad
-section_read x Measured·.NoLength r = bad
+abbrev pub section_read : ℕ → Option Height → List ℕ → Read Section
+section_read x (Some h) r = cond (ltb x greatest_disk) (got (record { first = x; height = h }) r) bad
+section_read x None r = bad
 
 -- a pair
 unfoldable pub read_pair : ℕ → List ℕ → Read Section

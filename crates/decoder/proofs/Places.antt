@@ -16,7 +16,6 @@ use Rattle.catalogue.specs.Version.{widest_field}
 use borrow.Author.Tests.{le-ltb, lt-ltb}
 use Rattle.piece.specs.Packed.{section_in}
 use Rattle.piece.specs.declared.Piece.{Piece}
-use Rattle.section.specs.declared.Measured.{Measured}
 use Rattle.catalogue.specs.Reading.{Read, bad, got, read_field, read_from, read_pair, section_read, then}
 use Rattle.catalogue.specs.Encoding.{byte_values}
 use Rattle.section.proofs.Multiples.{below_or_not}
@@ -27,7 +26,7 @@ use Rattle.section.specs.Heights.{height_of}
 use Rattle.section.specs.Limits.{greatest_disk, greatest_height}
 use Rattle.section.specs.Sections.{length_of}
 use Rattle.section.specs.declared.Height.{Height}
-use Rattle.section.specs.declared.Measured.TheVariants as Measured·
+use Rattle.std.specs.Prelude.{Option, Some, None}
 
 pub drop_same : (s : List ℕ) (a b : ℕ) → a ≡ b → drop a s ≡ drop b s
 drop_same s a b e = ap (λ k. drop k s) e
@@ -136,7 +135,7 @@ module _ (w : ℕ) where
       ∙ ap (λ r. section_read x (height_of n) r) (drop_same s (at + w + w) (at + 2 * w) (omega arith)))
 
   module _ (s : List ℕ) (at x n : ℕ) (p : FieldAt w s at x) (q : FieldAt w s (at + w) n) where
-    pub pair_section : (h : Height) → x < greatest_disk → height_of n ≡ Measured·.Height h
+    pub pair_section : (h : Height) → x < greatest_disk → height_of n ≡ Some h
         → read_pair w (drop at s) ≡ got (record { first = x; height = h }) (drop (at + 2 * w) s)
     pair_section h lt e =
         pair_at_lem s at x n p q
@@ -148,13 +147,13 @@ module _ (w : ℕ) where
     pub pair_far : greatest_disk ≤ x → read_pair w (drop at s) ≡ bad
     pair_far le = pair_at_lem s at x n p q ∙ go (height_of n)
       where
-        go : (m : Measured) → section_read x m (drop (at + 2 * w) s) ≡ bad
-        go (Measured·.Height h) =
+        go : (m : Option Height) → section_read x m (drop (at + 2 * w) s) ≡ bad
+        go (Some h) =
             ap (λ t. cond t (got (record { first = x; height = h }) (drop (at + 2 * w) s)) bad)
             (le-ltb x greatest_disk le)
-        go Measured·.NoLength = refl
+        go None = refl
 
-    pub pair_none : height_of n ≡ Measured·.NoLength → read_pair w (drop at s) ≡ bad
+    pub pair_none : height_of n ≡ None → read_pair w (drop at s) ≡ bad
     pair_none e = pair_at_lem s at x n p q ∙ ap (λ m. section_read x m (drop (at + 2 * w) s)) e
 
 pub pair_got : (p : PairRead) (r : List ℕ) → p.ok ≡ true → pair_in p r ≡ got (section_in p.piece) r
@@ -176,7 +175,7 @@ no_pair_at w s at p e k =
     }
 
 pub some_pair_at : (w : ℕ) (s : List ℕ) (at x n : ℕ) → FieldAt w s at x → FieldAt w s (at + w) n → (h : Height)
-    → x < greatest_disk → height_of n ≡ Measured·.Height h → at + 2 * w ≤ length s → (z : Piece)
+    → x < greatest_disk → height_of n ≡ Some h → at + 2 * w ≤ length s → (z : Piece)
     → section_in z ≡ record { first = x; height = h } → PairAt w s at (record { ok = true; length = n; piece = z })
 unfolding pair_in
 some_pair_at w s at x n p q h lt e l z k =

@@ -9,7 +9,7 @@ use crate::{PairRead, PairsRead};
 use catalogue::Version;
 use piece::Piece;
 use piece_lists::Pieces;
-use section::{Height, Measured, Section};
+use section::{Height, Section};
 
 fn wide(x: u8) -> u32
     ensures { (result ≡ x) × (result < 256) }
@@ -65,17 +65,14 @@ fn read_pair(s: &[u8], at: usize, width: usize) -> PairRead
     if Section::GREATEST_DISK <= first {
         return no_pair();
     }
-    let measured = Height::of_length(length);
-    match measured {
-        Measured::Height(height) => {
-            let piece = Piece::of(Section { first, height });
-            PairRead {
-                ok: true,
-                length,
-                piece,
-            }
-        }
-        Measured::NoLength => no_pair(),
+    let Some(height) = Height::of_length(length) else {
+        return no_pair();
+    };
+    let piece = Piece::of(Section { first, height });
+    PairRead {
+        ok: true,
+        length,
+        piece,
     }
 }
 

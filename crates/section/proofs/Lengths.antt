@@ -10,7 +10,7 @@ use Rattle.section.specs.Limits.{greatest_height, greatest_disk}
 use Rattle.section.specs.Heights.{height_of, height_up_to}
 use Rattle.section.proofs.Multiples.{below_or_not}
 use Rattle.section.specs.declared.Height.{Height}
-use Rattle.section.specs.declared.Measured.TheVariants as Measured·
+use Rattle.std.specs.Prelude.{Some, None}
 
 -- the greatest length is the whole of the greatest disk
 pub length-greatest : 2 ^ greatest_height ≡ greatest_disk
@@ -30,7 +30,7 @@ pow_lt_inv h i p =
     elim (below_or_not h i) [ inl l ↦ l | inr l ↦ absurd (omega (arith, pow_mono {i = i} {j = h} l)) ]
 
 -- each power up to 2 ^ m is found
-pub height_up_to_lem : (m h : ℕ) → h ≤ m → height_up_to m (2 ^ h) ≡ Measured·.Height (record { value = h })
+pub height_up_to_lem : (m h : ℕ) → h ≤ m → height_up_to m (2 ^ h) ≡ Some (record { value = h })
 height_up_to_lem zero h l =
     let e : h ≡ 0 = omega arith in
     rw e refl
@@ -43,12 +43,12 @@ height_up_to_lem (suc m) h l =
     ]
 
 -- each length has its height
-pub height-of-length : (h : ℕ) → h ≤ greatest_height → height_of (2 ^ h) ≡ Measured·.Height (record { value = h })
+pub height-of-length : (h : ℕ) → h ≤ greatest_height → height_of (2 ^ h) ≡ Some (record { value = h })
 unfolding height_of
 height-of-length h l = height_up_to_lem greatest_height h l
 
 -- and nothing else is
-pub length_up_to : (m n : ℕ) (h : Height) → height_up_to m n ≡ Measured·.Height h
+pub length_up_to : (m n : ℕ) (h : Height) → height_up_to m n ≡ Some h
     → (h.value ≤ m) × (n ≡ 2 ^ h.value)
 length_up_to zero n h e =
     elim (ℕ_discrete n 1) [
@@ -66,7 +66,7 @@ length_up_to (suc m) n h e =
     ]
 
 -- what has a height is that height's length, and no height is above the greatest
-pub length-of-height : (n : ℕ) (h : Height) → height_of n ≡ Measured·.Height h
+pub length-of-height : (n : ℕ) (h : Height) → height_of n ≡ Some h
     → (h.value ≤ greatest_height) × (n ≡ 2 ^ h.value)
 unfolding height_of
 length-of-height n h e = length_up_to greatest_height n h e
@@ -74,7 +74,7 @@ length-of-height n h e = length_up_to greatest_height n h e
 -- ---- what is no length
 
 -- what is no length is none of the powers
-pub no_length_no_power : (n h : ℕ) → height_of n ≡ Measured·.NoLength → h ≤ greatest_height → n ≡ 2 ^ h → ⊥
+pub no_length_no_power : (n h : ℕ) → height_of n ≡ None → h ≤ greatest_height → n ≡ 2 ^ h → ⊥
 no_length_no_power n h e l p =
     let z : ◌≡◌ {A = ℕ} 0 1 = cc (e, height-of-length h l, ap height_of p) in
     omega arith
@@ -84,11 +84,11 @@ abbrev pub NoneUpTo : ℕ → ℕ → Type 0
 NoneUpTo zero n = Unit {0} × (n ≡ 1 → ⊥)
 NoneUpTo (suc m) n = NoneUpTo m n × (n ≡ 2 ^ suc m → ⊥)
 
-none_up_to : (m n : ℕ) → NoneUpTo m n → height_up_to m n ≡ Measured·.NoLength
+none_up_to : (m n : ℕ) → NoneUpTo m n → height_up_to m n ≡ None
 none_up_to zero n r = simp (ne_eqb n 1 r.1)
 none_up_to (suc m) n r = simp (ne_eqb n (2 ^ suc m) r.1) (none_up_to m n r.0)
 
-pub no_length_of_match : (n : ℕ) → NoneUpTo greatest_height n → height_of n ≡ Measured·.NoLength
+pub no_length_of_match : (n : ℕ) → NoneUpTo greatest_height n → height_of n ≡ None
 unfolding height_of
 no_length_of_match n r = none_up_to greatest_height n r
 
@@ -98,10 +98,10 @@ no_power_none (suc m) n p = (no_power_none m n (λ h l. p h (omega arith)), p (s
 
 -- and what is none of the powers is no length
 pub no_length_of_no_power : (n : ℕ) → ((h : ℕ) → h ≤ greatest_height → n ≡ 2 ^ h → ⊥)
-    → height_of n ≡ Measured·.NoLength
+    → height_of n ≡ None
 no_length_of_no_power n p = no_length_of_match n (no_power_none greatest_height n p)
 
 -- more than the greatest disk is no length
-pub no_length_above : (n : ℕ) → greatest_disk < n → height_of n ≡ Measured·.NoLength
+pub no_length_above : (n : ℕ) → greatest_disk < n → height_of n ≡ None
 no_length_above n l =
     no_length_of_no_power n (λ h m e. omega (arith, pow_mono {i = h} {j = greatest_height} m, length-greatest))

@@ -4,9 +4,9 @@ use mathlib.Core.Bool.{true, false}
 use mathlib.Core.List.{[], ◌∷◌}
 use mathlib.Core.Path.{◌≡◌, refl}
 use Rattle.section.specs.Heights.{height_of}
+use Rattle.std.specs.Prelude.{Some, None}
 use Rattle.section.specs.Sections.{buddy_first, buddy_of, has_buddy, is_aligned, is_inside, is_on_disk, moved_into}
 use Rattle.section.specs.Sections.{parent_first, parent_of, section, shares_block}
-use Rattle.section.specs.declared.Measured.TheVariants as Measured·
 
 -- lower and upper halves, at several heights, and the halves of the greatest section
 pub buddies_of_cases :
@@ -54,8 +54,8 @@ moves_of_cases = refl
 pub lengths_of_cases :
     height_of 1 ∷ height_of 2 ∷ height_of 32 ∷ height_of 4096 ∷ height_of 1048576 ∷ height_of 0 ∷ height_of 3
     ∷ height_of 2097152 ∷ []
-    ≡ Measured·.Height (record { value = 0 }) ∷ Measured·.Height (record { value = 1 })
-    ∷ Measured·.Height (record { value = 5 }) ∷ Measured·.Height (record { value = 12 })
-    ∷ Measured·.Height (record { value = 20 }) ∷ Measured·.NoLength ∷ Measured·.NoLength ∷ Measured·.NoLength ∷ []
+    ≡ Some (record { value = 0 }) ∷ Some (record { value = 1 })
+    ∷ Some (record { value = 5 }) ∷ Some (record { value = 12 })
+    ∷ Some (record { value = 20 }) ∷ None ∷ None ∷ None ∷ []
 unfolding height_of
 lengths_of_cases = refl

@@ -1,7 +1,7 @@
 // Section arithmetic: heights and lengths, sections of a disk and their buddies. Operations on the bits of
 // block numbers stand here alone.
 //
-// Which numbers are served. `Height::of_length` takes any number and refuses what is no length by its answer.
+// Which numbers are served. `Height::of_length` takes any number, and its answer to what is no length is `None`.
 // `is_on_disk` takes any first block and any number of blocks. Every other function asks for what a section of a disk
 // gives: a height up to the greatest, which `of_length` answers, and a first block of some disk, by `is_on_disk`.
 // `shares_block` takes any four numbers, and its answer holds of every two aligned sections that they belong to.
@@ -17,16 +17,9 @@ ghost use Rattle.section.specs.Sections.{Spans, length_of, shares_block, is_insi
 pub use limits::limits_agree;
 
 // The height of a section: its length is 2 to the height.
-#[derive(Clone, Copy)]
+#[derive(Clone, Copy, PartialEq, Eq)]
 pub struct Height {
     pub value: u32,
-}
-
-// What a number of blocks is the length of.
-#[derive(Clone, Copy)]
-pub enum Measured {
-    Height(Height),
-    NoLength,
 }
 
 impl Height {
@@ -38,39 +31,39 @@ impl Height {
         1 << self.value
     }
 
-    // The height whose length is `n`.
-    pub fn of_length(n: u32) -> Measured
+    // The height whose length is `n`, if `n` is a length.
+    pub fn of_length(n: u32) -> Option<Height>
         ensures { result ≡ height_of n }
     {
         match n {
-            1 => Measured::Height(Height { value: 0 }),
-            2 => Measured::Height(Height { value: 1 }),
-            4 => Measured::Height(Height { value: 2 }),
-            8 => Measured::Height(Height { value: 3 }),
-            16 => Measured::Height(Height { value: 4 }),
-            32 => Measured::Height(Height { value: 5 }),
-            64 => Measured::Height(Height { value: 6 }),
-            128 => Measured::Height(Height { value: 7 }),
-            256 => Measured::Height(Height { value: 8 }),
-            512 => Measured::Height(Height { value: 9 }),
-            1024 => Measured::Height(Height { value: 10 }),
-            2048 => Measured::Height(Height { value: 11 }),
-            4096 => Measured::Height(Height { value: 12 }),
-            8192 => Measured::Height(Height { value: 13 }),
-            16384 => Measured::Height(Height { value: 14 }),
-            32768 => Measured::Height(Height { value: 15 }),
-            65536 => Measured::Height(Height { value: 16 }),
-            131072 => Measured::Height(Height { value: 17 }),
-            262144 => Measured::Height(Height { value: 18 }),
-            524288 => Measured::Height(Height { value: 19 }),
-            1048576 => Measured::Height(Height { value: 20 }),
-            _ => Measured::NoLength,
+            1 => Some(Height { value: 0 }),
+            2 => Some(Height { value: 1 }),
+            4 => Some(Height { value: 2 }),
+            8 => Some(Height { value: 3 }),
+            16 => Some(Height { value: 4 }),
+            32 => Some(Height { value: 5 }),
+            64 => Some(Height { value: 6 }),
+            128 => Some(Height { value: 7 }),
+            256 => Some(Height { value: 8 }),
+            512 => Some(Height { value: 9 }),
+            1024 => Some(Height { value: 10 }),
+            2048 => Some(Height { value: 11 }),
+            4096 => Some(Height { value: 12 }),
+            8192 => Some(Height { value: 13 }),
+            16384 => Some(Height { value: 14 }),
+            32768 => Some(Height { value: 15 }),
+            65536 => Some(Height { value: 16 }),
+            131072 => Some(Height { value: 17 }),
+            262144 => Some(Height { value: 18 }),
+            524288 => Some(Height { value: 19 }),
+            1048576 => Some(Height { value: 20 }),
+            _ => None,
         }
     }
 }
 
 // The blocks from `first` on, as many as the height's length.
-#[derive(Clone, Copy)]
+#[derive(Clone, Copy, PartialEq, Eq)]
 pub struct Section {
     pub first: u32,
     pub height: Height,
@@ -82,8 +75,7 @@ impl Section {
         requires { NoHigher self.height }
         ensures { result ≡ length_of self - 1 }
     {
-        let h = self.height;
-        h.length() - 1
+        self.height.length() - 1
     }
 
     // Whether the first block is a multiple of the length.
@@ -91,8 +83,7 @@ impl Section {
         requires { NoHigher self.height }
         ensures { result ≡ is_aligned self }
     {
-        let mask = self.mask();
-        self.first & mask == 0
+        self.first & self.mask() == 0
     }
 
     // The block after the last.
@@ -100,8 +91,7 @@ impl Section {
         requires { Addressable self }
         ensures { result ≡ end_of self }
     {
-        let h = self.height;
-        self.first + h.length()
+        self.first + self.height.length()
     }
 
     // Whether the section is one of a disk of `blocks` blocks.
@@ -109,8 +99,7 @@ impl Section {
         requires { NoHigher self.height }
         ensures { result ≡ is_on_disk blocks self }
     {
-        let h = self.height;
-        let length = h.length();
+        let length = self.height.length();
         if blocks < length {
             return false;
         }
@@ -125,10 +114,9 @@ impl Section {
         requires { NoHigher self.height }
         ensures { result ≡ buddy_of self }
     {
-        let h = self.height;
         Section {
-            first: self.first ^ h.length(),
-            height: h,
+            first: self.first ^ self.height.length(),
+            height: self.height,
         }
     }
 
@@ -137,8 +125,7 @@ impl Section {
         requires { NoHigher self.height }
         ensures { result ≡ has_buddy blocks self }
     {
-        let buddy = self.buddy();
-        buddy.is_on_disk(blocks)
+        self.buddy().is_on_disk(blocks)
     }
 
     // The section of which the section and its buddy are the halves.
@@ -146,11 +133,12 @@ impl Section {
         requires { NoHigher self.height }
         ensures { result ≡ parent_of self }
     {
-        let h = self.height;
-        let length = 2 * h.length();
+        let length = 2 * self.height.length();
         Section {
             first: self.first / length * length,
-            height: Height { value: h.value + 1 },
+            height: Height {
+                value: self.height.value + 1,
+            },
         }
     }
 
@@ -178,11 +166,10 @@ impl Section {
         requires addressable_3 { Addressable to }
         ensures { result ≡ moved_into from to self }
     {
-        let h = self.height;
         if self.is_inside(from) {
             Section {
                 first: to.first + (self.first - from.first),
-                height: h,
+                height: self.height,
             }
         } else {
             self

@@ -5,7 +5,7 @@ ghost use Rattle.std.specs.Prelude.{◌≡◌, true, ◌<◌};
 ghost use Rattle.section.specs.Heights.{NoHigher};
 ghost use Rattle.section.specs.Sections.{buddy_of, is_on_disk};
 
-use section::{Height, Measured, Section};
+use section::{Height, Section};
 use std::io;
 
 // The buddy of the lower of two sections of one height: it is always on their disk.
@@ -30,13 +30,10 @@ fn print_pair(rt: &impl Print, word: &str, first: u32, length: u32) -> io::Resul
 fn print_parent_and_buddy(rt: &impl Print, s: Section, blocks: u32) -> io::Result<()>
     requires { NoHigher s.height }
 {
-    let height = s.height;
-    let length = height.length();
-    let parent = s.parent();
-    print_pair(rt, " parent ", parent.first, 2 * length)?;
+    let length = s.height.length();
+    print_pair(rt, " parent ", s.parent().first, 2 * length)?;
     if s.has_buddy(blocks) {
-        let buddy = s.buddy();
-        print_pair(rt, " buddy ", buddy.first, length)?;
+        print_pair(rt, " buddy ", s.buddy().first, length)?;
     } else {
         print!(rt; " no buddy")?;
     }
@@ -46,7 +43,7 @@ fn print_parent_and_buddy(rt: &impl Print, s: Section, blocks: u32) -> io::Resul
 // Writes what section arithmetic says of a pair on a disk of `blocks` blocks: a line, whatever the numbers.
 fn print_section(rt: &impl Print, first: u32, length: u32, blocks: u32) -> io::Result<()> {
     print_pair(rt, "", first, length)?;
-    let Measured::Height(height) = Height::of_length(length) else {
+    let Some(height) = Height::of_length(length) else {
         return println!(rt; " no length");
     };
     let s = Section { first, height };

@@ -17,19 +17,19 @@ returns-then-first-ge-GREATEST_DISK c =
 
 pub of-piece-requires : goal.of-piece-requires
 of-piece-requires c =
-    let l = (length-of-height _ _ (sym c.of_length-measured.ensures ∙ c.in-Height.is)).0 in
+    let l = (length-of-height _ _ (sym c.in-Some.ensures)).0 in
     record { first = omega (arith, c.if-first-ge-GREATEST_DISK.false); height = omega (arith, l) }
 
-pub returns-in-Height : goal.returns-in-Height
-returns-in-Height c =
+pub returns : goal.returns
+returns c =
     some_pair_at c.args.width c.args.s.now c.args.at _ _ c.read_field-first.ensures c.read_field-length.ensures _
     (omega (arith, c.if-first-ge-GREATEST_DISK.false))
-    (sym c.of_length-measured.ensures ∙ c.in-Height.is)
+    (sym c.in-Some.ensures)
     (omega arith) _
     c.of-piece.ensures.holds
 
-pub returns-in-NoLength : goal.returns-in-NoLength
-returns-in-NoLength c =
+pub returns-in_default : goal.returns-in_default
+returns-in_default c =
     no_pair_at _ _ _ _ (pair_none c.args.width c.args.s.now c.args.at _ _ c.read_field-first.ensures
-    c.read_field-length.ensures (sym c.of_length-measured.ensures ∙ c.in-NoLength.is))
-    c.no_pair-in-NoLength.ensures
+    c.read_field-length.ensures (sym c.in_default.ensures))
+    c.no_pair-in_default.ensures

@@ -6,9 +6,9 @@ use Rattle.section.specs.declared.Section.{Section}
 use Rattle.section.proofs.Section.has_buddy.Goals as goal
 
 pub is_on_disk-requires : goal.is_on_disk-requires
-is_on_disk-requires c = omega (arith, ap (λ (s : Section). s.height.value) c.buddy-buddy.ensures, c.requires)
+is_on_disk-requires c = omega (arith, ap (λ (s : Section). s.height.value) c.buddy.ensures, c.requires)
 
 pub returns : goal.returns
 unfolding has_buddy
 returns c =
-    c.is_on_disk.ensures ∙ ap (is_on_disk c.args.blocks) c.buddy-buddy.ensures
+    c.is_on_disk.ensures ∙ ap (is_on_disk c.args.blocks) c.buddy.ensures

@@ -10,5 +10,5 @@ pub returns : goal.returns
 unfolding is_aligned
 returns c =
     let s = c.args.self in
-    let masked = ap (bit_and s.first) c.mask-mask.ensures in
+    let masked = ap (bit_and s.first) c.mask.ensures in
     ap (λ (r : ℕ). eqb r 0) (masked ∙ and_mask s.first s.height.value)

@@ -1,11 +1,9 @@
 -- Text behind text: one after the other, in a loop, and the room for both. Assumes nothing.
-use mathlib.Core.List.{List, [], ◌++◌, ◌∷◌, append_assoc, append-nil}
+use mathlib.Core.List.{List, [], ◌++◌, append_assoc, append-nil}
 use mathlib.Core.Path.{◌∙◌, ◌≡◌, ap, refl, sym}
-use Prim.Native.Nat.{◌+◌, ◌<◌, ◌≤◌, ℕ}
-use native.Mathlib.Numerals.{add-one}
+use Prim.Native.Nat.{◌+◌, ℕ}
 use native.Mathlib.Omega.{arith}
-use lib.ListN.{length, length-append, length-set, set, take}
-use lib.Seq.{length-paste, paste, take-length, take-paste, take-suc-set}
+use lib.ListN.{length, length-append, take}
 use Rattle.manager.specs.Printing.{decimal}
 use Rattle.texts.specs.Lines.{Appends, Prints, Room, line_of}
 
@@ -34,26 +32,6 @@ appends_same {at} {r} {x} {y} {o} e a = record {
   next = omega (arith, ap length e);
   same = a.same;
 }
-
--- a byte
-pub put_one : (o : List ℕ) (at b : ℕ) → at < length o → Appends at (b ∷ []) o (set o at b) (at + 1)
-put_one o at b h = record {
-  bytes = ap (λ k. take k (set o at b)) (add-one at) ∙ take-suc-set o at b h;
-  next = refl;
-  same = length-set o at b;
-}
-
--- a word that was copied
-pub pasted : (o w : List ℕ) (at i : ℕ) → Room at w o → i ≤ length w → length w ≤ i
-    → Appends at w o (paste o at w i) (at + i)
-pasted o w at i h k l =
-    let e : i ≡ length w = omega arith in
-    record {
-      bytes =
-          take-paste o at w i (omega arith) k ∙ ap (λ z. take at o ++ z) (ap (λ n. take n w) e ∙ take-length w);
-      next = ap (λ n. at + n) e;
-      same = length-paste o at w i (omega arith) k;
-    }
 
 -- the whole text from the start
 pub prints : {r : ℕ} {x o o' : List ℕ} → Appends 0 x o o' r → Room 0 x o → Prints x o' r

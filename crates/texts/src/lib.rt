@@ -4,17 +4,16 @@
 ghost use Rattle.manager.specs.Printing.{decimal};
 ghost use Rattle.texts.specs.Lines.{Room, Appends, line_of};
 
+use itoa::Buffer;
+
 // Writes the bytes of a word.
 pub fn write_bytes(out: &mut [u8], at: usize, word: &[u8]) -> usize
     requires { Room at word.now out.old }
     ensures { Appends at word.now out.old out.new result }
 {
-    let mut i: usize = 0;
-    while i < word.len() {
-        out[at + i] = word[i];
-        i += 1;
-    }
-    at + i
+    let end = at + word.len();
+    out[at..end].copy_from_slice(word);
+    end
 }
 
 // Writes a number in decimal, without leading zeros.
@@ -22,13 +21,8 @@ pub fn write_decimal(out: &mut [u8], at: usize, n: u32) -> usize
     requires { Room at (decimal n) out.old }
     ensures { Appends at (decimal n) out.old out.new result }
 {
-    if n < 10 {
-        out[at] = 48 + n as u8;
-        return at + 1;
-    }
-    let next = write_decimal(out, at, n / 10);
-    out[next] = 48 + (n % 10) as u8;
-    next + 1
+    let mut digits = Buffer::new();
+    write_bytes(out, at, digits.format(n).as_bytes())
 }
 
 // Writes a line with two numbers: `start`, a number, `middle`, a number, and the line's end.

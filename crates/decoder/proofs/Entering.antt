@@ -13,19 +13,17 @@ use Rattle.catalogue.specs.Reading.{Read, bad, file_read, got, read_entry, read_
 use Rattle.section.proofs.Multiples.{below_or_not}
 use mathlib.Core.Logic.{◌⊎◌, inl, inr}
 use Rattle.decoder.proofs.Files.{file_many, file_parts, file-read, file_refused}
-use Rattle.decoder.proofs.Runs.{pairs_bad, pairs_count, pairs_got}
-use Rattle.decoder.specs.Entries.{EntryAt, NoFile, accepted, entry_in, is_file}
-use Rattle.decoder.specs.Fields.{FieldAt, PairsAt}
+use Rattle.decoder.proofs.Runs.{pairs_count}
+use Rattle.decoder.specs.Entries.{SomeEntryAt, accepted, is_file}
+use Rattle.decoder.specs.Fields.{FieldAt, SomePairsAt}
 use Rattle.soundness.specs.Order.{in_order}
 use Rattle.decoder.specs.Pieces.{Sorts}
-use Rattle.decoder.specs.declared.EntryRead.{EntryRead}
 use Rattle.decoder.specs.declared.PairsRead.{PairsRead}
 use Rattle.layout.proofs.Lists.{sum_sort}
-use Rattle.layout.specs.Layout.{File, block_count, by_length}
+use Rattle.layout.specs.Layout.{block_count, by_length}
 use Rattle.section.specs.Sections.{length_of}
 use Rattle.section.specs.declared.Section.{Section}
 use Rattle.piece_lists.specs.Few.{list_of, piece_places}
-use Rattle.table.specs.Tables.{file_of}
 use Rattle.table.specs.declared.Entry.{Entry}
 
 entry-of-few : (w : ℕ) (l : List ℕ) → length l < short_field + w → read_entry w l ≡ bad
@@ -59,86 +57,48 @@ entry_at w s i n x p q e =
     q.equal
     ∙ ap (λ z. then z λ l r''. file_read i n l r'') e)
 
-no_entry-at : (w : ℕ) (s : List ℕ) (e : EntryRead) → accepted (read_entry w s) ≡ bad → NoFile e
-    → EntryAt w s e
-unfolding entry_in
-no_entry-at w s e q k =
-    record {
-      meaning =
-          q
-          ∙ sym
-          (ap (λ t. elim t as (λ _. Read File) [ true ↦ got (file_of e.entry) (drop e.size s) | false ↦ bad ])
-          k.0);
-      pages = k.1 ∙ sym (ap block_count k.4);
-      most = omega (arith, k.1);
-      places = omega (arith, k.3);
-      inside = omega (arith, k.2);
-    }
-
-pub short_entry : (w : ℕ) (s : List ℕ) (e : EntryRead) → length s < short_field + w
-    → NoFile e
-    → EntryAt w s e
+pub short_entry : (w : ℕ) (s : List ℕ) → length s < short_field + w → accepted (read_entry w s) ≡ bad
 unfolding accepted
-short_entry w s e h k = no_entry-at w s e (ap accepted (entry-of-few w s h)) k
+short_entry w s h = ap accepted (entry-of-few w s h)
 
 -- a file of more pieces than an entry has places
 pub many_pieces : (w : ℕ) (s : List ℕ) (i n : ℕ) → FieldAt short_field s 0 i → FieldAt w s short_field n
-    → piece_places < ones n → (e : EntryRead)
-    → NoFile e
-    → EntryAt w s e
+    → piece_places < ones n → accepted (read_entry w s) ≡ bad
 unfolding accepted
-many_pieces w s i n p q h e k =
+many_pieces w s i n p q h =
     let x = read_pairs (ones n) w (drop (short_field + w) s) in
-    no_entry-at w s e (ap accepted (entry_at w s i n x p q refl) ∙ go x refl) k
+    ap accepted (entry_at w s i n x p q refl) ∙ go x refl
   where
     go : (x : Read (List Section)) → read_pairs (ones n) w (drop (short_field + w) s) ≡ x
         → accepted (then x λ l r. file_read i n l r) ≡ bad
     go (got l r) z = file_many i n l r (omega (arith, pairs_count w (ones n) (drop (short_field + w) s) l r z))
     go bad z = refl
 
-module _ (w : ℕ) (s : List ℕ) (i n : ℕ) (p : FieldAt short_field s 0 i) (q : FieldAt w s short_field n) (x : PairsRead)
-    (y : PairsAt w s (short_field + w) (ones n) x) where
-  pub unread-entry : (e : EntryRead) → x.ok ≡ false
-      → NoFile e
-      → EntryAt w s e
+module _ (w : ℕ) (s : List ℕ) (i n : ℕ) (p : FieldAt short_field s 0 i) (q : FieldAt w s short_field n) where
+  pub unread-entry : read_pairs (ones n) w (drop (short_field + w) s) ≡ bad → accepted (read_entry w s) ≡ bad
   unfolding accepted
-  unread-entry e o k =
-      no_entry-at w s e
-      (ap accepted
-      (entry_at w s i n bad p q
-      (y.meaning ∙ pairs_bad x _ o)))
-      k
+  unread-entry e = ap accepted (entry_at w s i n bad p q e)
 
-  pairs-read : x.ok ≡ true
-      → accepted (read_entry w s)
-      ≡ accepted (file_read i n (list_of x.list) (drop x.end s))
-  pairs-read o =
-      ap accepted
-      (entry_at w s i n (got (list_of x.list) (drop x.end s)) p q
-      (y.meaning ∙ pairs_got x _ o))
+  module _ (x : PairsRead) (y : SomePairsAt w s (short_field + w) (ones n) x) where
+    pairs-read : accepted (read_entry w s) ≡ accepted (file_read i n (list_of x.list) (drop x.end s))
+    pairs-read = ap accepted (entry_at w s i n (got (list_of x.list) (drop x.end s)) p q y.meaning)
 
-  module _ (o : x.ok ≡ true) where
     counted : length (list_of x.list) ≡ ones n
-    counted = y.exact ∙ y.count o
+    counted = y.exact ∙ y.count
 
     few : length (list_of x.list) ≤ piece_places
     few = omega (arith, y.exact, y.places)
 
-    pub refused_entry : (e : EntryRead) → is_file i n (list_of x.list) ≡ false
-        → NoFile e
-        → EntryAt w s e
-    refused_entry e f k =
-        no_entry-at w s e
-        (pairs-read o ∙ file_refused i n (list_of x.list) (drop x.end s) f) k
+    pub refused_entry : is_file i n (list_of x.list) ≡ false → accepted (read_entry w s) ≡ bad
+    refused_entry f = pairs-read ∙ file_refused i n (list_of x.list) (drop x.end s) f
 
     pub some_entry : (e : Entry) → is_file i n (list_of x.list) ≡ true → Sorts i x.list e
-        → EntryAt w s (record { ok = true; n = n; size = x.end; entry = e })
-    unfolding entry_in
+        → SomeEntryAt w s (record { n = n; size = x.end; entry = e })
     some_entry e f z =
         let d = file_parts i n (list_of x.list) f in
         record {
           meaning =
-              pairs-read o
+              pairs-read
               ∙ (file-read i n (list_of x.list) (drop x.end s) counted p.most few f
               ∙ ap₂ (λ j l. got (record { id = j; pieces = l }) (drop x.end s)) (sym z.id)
               (sym z.list));
@@ -147,7 +107,7 @@ module _ (w : ℕ) (s : List ℕ) (i n : ℕ) (p : FieldAt short_field s 0 i) (q
               ∙ (sym (sum_sort length_of by_length (list_of x.list)) ∙ sym (ap block_count z.list));
           most = omega (arith, d.0, y.equal, y.most);
           places = omega (arith, z.count, y.places);
-          inside = y.inside o;
+          inside = y.inside;
         }
 
 -- ---- what the code tests
@@ -170,11 +130,3 @@ module _ (i n : ℕ) (l : List Section) where
   unfolding is_file
   order_left a b e =
       simp (le-leb 1 i (omega (arith, a)), le-leb 1 n (omega (arith, b)), eq-eqb (block_count l) n e)
-
-pub entry_got : (e : EntryRead) (r : List ℕ) → e.ok ≡ true → entry_in e r ≡ got (file_of e.entry) r
-unfolding entry_in
-entry_got e r o = rw o
-
-pub entry_bad : (e : EntryRead) (r : List ℕ) → e.ok ≡ false → entry_in e r ≡ bad
-unfolding entry_in
-entry_bad e r o = rw o

@@ -9,10 +9,9 @@ use lib.ListN.{drop, length, length-drop, set, take}
 use lib.Seq.{drop-drop, take_all}
 use Rattle.catalogue.specs.Reading.{Read, bad, every, got, read_entries, read_entry, then}
 use Rattle.decoder.proofs.Early.{all_accepted}
-use Rattle.decoder.proofs.Entering.{entry_bad, entry_got}
 use Rattle.decoder.proofs.Runs.{after_more, after_none, read_after}
 use Rattle.soundness.proofs.Joined.{files_to, pushed}
-use Rattle.decoder.specs.Entries.{EntryAt, acceptable, accepted, entry_in}
+use Rattle.decoder.specs.Entries.{SomeEntryAt, acceptable, accepted}
 use Rattle.decoder.specs.declared.EntryRead.{EntryRead}
 use Rattle.layout.proofs.Lists.{map-append, sum-append}
 use Rattle.layout.specs.Layout.{File, file_blocks}
@@ -110,37 +109,40 @@ files_start w s at count files =
     zero_less : count - 0 ≡ count
     zero_less = omega arith
 
-module _ (w : ℕ) (s : List ℕ) (count at i : ℕ) (files : List Entry) (h : i < count) (e : EntryRead)
-    (q : EntryAt w (take (length s - at) (drop at s)) e) where
+module _ (w : ℕ) (s : List ℕ) (count at i : ℕ) (files : List Entry) (h : i < count) where
   one_less : count - i ≡ suc (count - (i + 1))
   one_less = omega arith
 
   whole : take (length s - at) (drop at s) ≡ drop at s
   whole = take_all _ _ (le_of_eq (length-drop at s))
 
-  at_place : accepted (read_entry w (drop at s)) ≡ entry_in e (drop (at + e.size) s)
-  at_place =
-      sym (ap (λ z. accepted (read_entry w z)) whole)
-      ∙ (q.meaning
-      ∙ (ap (λ z. entry_in e (drop e.size z)) whole ∙ ap (entry_in e) (drop-drop e.size at s)))
-
-  pub entry_inside : at ≤ length s → at + e.size ≤ length s
-  entry_inside l = omega (arith, q.inside, ap length whole, length-drop at s)
-
-  pub files_more : e.ok ≡ true → i < length files
-      → FilesLeft w s count (at + e.size) (i + 1) (set files i e.entry) ≡ FilesLeft w s count at i files
-  files_more o l =
-      ap (λ z. read_after z (all_accepted (EntriesLeft w (count - (i + 1)) (drop (at + e.size) s))))
-      (files_pushed files i e.entry l)
-      ∙ (sym
-      (entries_step w (count - (i + 1)) (drop at s) (files_to i files) (file_of e.entry) (drop (at + e.size) s)
-      (at_place ∙ entry_got e _ o))
-      ∙ ap (λ n. read_after (files_to i files) (all_accepted (EntriesLeft w n (drop at s)))) (sym one_less))
-
-  pub files_bad : e.ok ≡ false → FilesLeft w s count at i files ≡ bad
-  files_bad o =
+  pub files_bad : accepted (read_entry w (take (length s - at) (drop at s))) ≡ bad
+      → FilesLeft w s count at i files ≡ bad
+  files_bad e =
       ap (λ n. read_after (files_to i files) (all_accepted (EntriesLeft w n (drop at s)))) one_less
-      ∙ entries_stop w (count - (i + 1)) (drop at s) (files_to i files) (at_place ∙ entry_bad e _ o)
+      ∙ entries_stop w (count - (i + 1)) (drop at s) (files_to i files)
+      (sym (ap (λ z. accepted (read_entry w z)) whole) ∙ e)
+
+  module _ (e : EntryRead) (q : SomeEntryAt w (take (length s - at) (drop at s)) e) where
+    at_place : accepted (read_entry w (drop at s)) ≡ got (file_of e.entry) (drop (at + e.size) s)
+    at_place =
+        sym (ap (λ z. accepted (read_entry w z)) whole)
+        ∙ (q.meaning
+        ∙ (ap (λ z. got (file_of e.entry) (drop e.size z)) whole
+        ∙ ap (got (file_of e.entry)) (drop-drop e.size at s)))
+
+    pub entry_inside : at ≤ length s → at + e.size ≤ length s
+    entry_inside l = omega (arith, q.inside, ap length whole, length-drop at s)
+
+    pub files_more : i < length files
+        → FilesLeft w s count (at + e.size) (i + 1) (set files i e.entry) ≡ FilesLeft w s count at i files
+    files_more l =
+        ap (λ z. read_after z (all_accepted (EntriesLeft w (count - (i + 1)) (drop (at + e.size) s))))
+        (files_pushed files i e.entry l)
+        ∙ (sym
+        (entries_step w (count - (i + 1)) (drop at s) (files_to i files) (file_of e.entry) (drop (at + e.size) s)
+        at_place)
+        ∙ ap (λ n. read_after (files_to i files) (all_accepted (EntriesLeft w n (drop at s)))) (sym one_less))
 
 pub files-end : (w : ℕ) (s : List ℕ) (count at : ℕ) (files : List Entry)
     → FilesLeft w s count at count files ≡ got (files_to count files) (drop at s)

@@ -1,16 +1,15 @@
 -- The array of files, filled entry by entry. Assumes nothing.
-use mathlib.Core.Bool.{false, true}
 use mathlib.Core.List.{List}
 use mathlib.Core.Path.{◌∙◌, ◌≡◌, ap, ap₂, refl, sym}
 use Prim.Native.Nat.{◌*◌, ◌+◌, ◌-◌, ◌<◌, ◌≤◌, ℕ}
 use native.Mathlib.Omega.{arith}
 use lib.ListN.{drop, length, length-set, set, take}
-use Rattle.catalogue.specs.Reading.{bad, got}
+use Rattle.catalogue.specs.Reading.{bad, got, read_entry}
 use Rattle.decoder.proofs.Early.{all_accepted}
 use Rattle.decoder.proofs.EntryRuns.{EntriesLeft, FilesLeft, entry_inside, files_bad, files-end, files_more}
 use Rattle.decoder.proofs.EntryRuns.{files_start, files-sum}
 use Rattle.soundness.proofs.Joined.{files_to}
-use Rattle.decoder.specs.Entries.{EntryAt}
+use Rattle.decoder.specs.Entries.{SomeEntryAt, accepted}
 use Rattle.catalogue.specs.Version.{header_size}
 use Rattle.piece_lists.specs.Few.{piece_places}
 use Rattle.decoder.specs.declared.EntryRead.{EntryRead}
@@ -47,18 +46,21 @@ filled_start w s n files l x p =
     }
 
 module _ (w : ℕ) (s : List ℕ) (n : ℕ) (files : List Entry) (at sum i : ℕ) (f : FilesAt w s n files at sum i) where
+  pub filled_bad : i < n → accepted (read_entry w (take (length s - at) (drop at s))) ≡ bad
+      → all_accepted (EntriesLeft w n (drop (header_size w) s)) ≡ bad
+  filled_bad h e = sym f.meaning ∙ files_bad w s n at i files h e
+
   module _ (h : i < n) (few : n ≤ most_files) (e : EntryRead)
-      (q : EntryAt w (take (length s - at) (drop at s)) e) where
+      (q : SomeEntryAt w (take (length s - at) (drop at s)) e) where
     pub filled_inside : at + e.size ≤ length s
     filled_inside = entry_inside w s n at i files h e q f.inside
 
-    pub filled_more : e.ok ≡ true
-        → FilesAt w s n (set files i e.entry) (at + e.size) (sum + e.n) (i + 1)
-    filled_more o =
+    pub filled_more : FilesAt w s n (set files i e.entry) (at + e.size) (sum + e.n) (i + 1)
+    filled_more =
         let l : i < length files = omega (arith, f.exact) in
         record {
           few = omega arith;
-          meaning = files_more w s n at i files h e q o l ∙ f.meaning;
+          meaning = files_more w s n at i files h e q l ∙ f.meaning;
           pages =
               ap₂ (λ m n. m + n) f.pages q.pages
               ∙ sym (files-sum files i e.entry l);
@@ -67,9 +69,6 @@ module _ (w : ℕ) (s : List ℕ) (n : ℕ) (files : List Entry) (at sum i : ℕ
           exact = simp length-set f.exact;
           inside = filled_inside;
         }
-
-    pub filled_bad : e.ok ≡ false → all_accepted (EntriesLeft w n (drop (header_size w) s)) ≡ bad
-    filled_bad o = sym f.meaning ∙ files_bad w s n at i files h e q o
 
   pub filled-end : i ≡ n → all_accepted (EntriesLeft w n (drop (header_size w) s)) ≡ got (files_to n files) (drop at s)
   filled-end e =

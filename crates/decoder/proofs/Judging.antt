@@ -1,33 +1,36 @@
 -- What was read is judged: a sound table and zero bytes after it, or no reading. Assumes nothing.
-use mathlib.Core.Bool.{Bool, ◌&&◌, false, true}
+use mathlib.Core.Bool.{Bool, ◌&&◌, cond, false, true}
 use mathlib.Core.List.{List}
 use mathlib.Core.Path.{◌∙◌, ◌≡◌, ap, refl, sym}
 use Prim.Native.Nat.{◌≤◌, ℕ}
 use native.Mathlib.Omega.{arith}
+use Rattle.std.proofs.Common.{None, Some}
 use Rattle.catalogue.specs.Reading.{Reading, got, is_sound, judged, read_catalogue, read_layout, sound, unsound}
 use Rattle.catalogue.proofs.Versions.{sound_in}
 use Rattle.catalogue.specs.Version.{Served, greatest_blocks}
 use Rattle.catalogue.specs.declared.Version.{Version}
 use Rattle.section.specs.Limits.{height_count}
 use Rattle.decoder.proofs.Early.{sound_free-few}
-use Rattle.decoder.specs.Loading.{Judged, Ready, all_zero, reading_of}
-use Rattle.decoder.specs.declared.Loaded.{Loaded}
+use Rattle.decoder.specs.Loading.{Judged, all_zero, reading_of}
 use Rattle.layout.specs.Layout.{Layout}
 use Rattle.soundness.proofs.Points.{false_true}
 use Rattle.soundness.specs.Counts.{Exact}
-use Rattle.free_pieces.specs.Free.{free_of}
-use Rattle.table.specs.Tables.{files_of, layout_of}
+use Rattle.table.specs.Tables.{layout_of}
 use Rattle.table.specs.declared.Table.{Table}
 
 abbrev answer : Bool → Layout → Reading
 answer b l = elim b as (λ _. Reading) [ true ↦ sound l | false ↦ unsound ]
 
+judged_is : (b : Bool) (t : Table) → reading_of (cond b (Some t) None) ≡ answer b (layout_of t)
+unfolding reading_of
+judged_is true t = refl
+judged_is false t = refl
+
 module _ (v : Version) (s : List ℕ) (t : Table) (b : Bool) where
-  pub judged_refused : read_catalogue v s ≡ unsound → b ≡ false → Judged v s t b
-  unfolding reading_of
+  judged_refused : read_catalogue v s ≡ unsound → b ≡ false → Judged v s t b
   judged_refused e o =
       record {
-        reading = ap (λ c. answer c (layout_of t)) o ∙ sym e;
+        reading = judged_is b t ∙ (ap (λ c. answer c (layout_of t)) o ∙ sym e);
         few_free = λ u. false_true (sym o ∙ u);
       }
 
@@ -42,12 +45,12 @@ module _ (v : Version) (s : List ℕ) (t : Table) (b : Bool) where
 
     pub judged-zero : Served v → t.blocks ≤ greatest_blocks v → all_zero r ≡ true → Exact t
         → b ≡ is_sound height_count (layout_of t) → Judged v s t b
-    unfolding reading_of layout_of
+    unfolding layout_of
     judged-zero ser fits z x o' =
         let o : b ≡ is_sound v.heights (layout_of t) = o' ∙ sym (sound_in v ser (layout_of t) fits) in
         record {
           reading =
-              ap (λ c. answer c (layout_of t)) o
+              judged_is b t ∙ ap (λ c. answer c (layout_of t)) o
               ∙ sym (judged-at ∙ ap (λ c. answer (c && is_sound v.heights (layout_of t)) (layout_of t)) z);
           few_free = λ u. omega (
             arith,
@@ -56,44 +59,3 @@ module _ (v : Version) (s : List ℕ) (t : Table) (b : Bool) where
                 (layout_of t) (sym o ∙ u),
           );
         }
-
-  module _ (j : Judged v s t b) (x : Exact t) where
-    pub loaded_sound : b ≡ true
-        → (reading_of (record { sound = b; table = t }) ≡ read_catalogue v s) × Ready t
-    loaded_sound o = (j.reading, record { exact = x; few_free = j.few_free o })
-
-    -- a table that is not sound keeps no free pieces
-    abbrev emptied : Table
-    emptied =
-        record {
-          blocks = t.blocks;
-          count = t.count;
-          files = t.files;
-          free = record { count = 0; items = t.free.items };
-        }
-
-    pub loaded_none : b ≡ false
-        → (reading_of (record { sound = b; table = emptied }) ≡ read_catalogue v s) × Ready emptied
-    unfolding reading_of files_of free_of
-    loaded_none o = (
-      ap (λ c. answer c (layout_of emptied)) o ∙ (sym (ap (λ c. answer c (layout_of t)) o) ∙ j.reading),
-      record {
-        exact = record {
-          sized = record { files = x.sized.files; free = omega arith; each = x.sized.each };
-          array = x.array;
-          files = x.files;
-          free = refl;
-        };
-        few_free = omega arith;
-      },
-    )
-
--- ---- what was loaded, by whether it is sound
-
-pub reading_sound : (l : Loaded) → l.sound ≡ true → reading_of l ≡ sound (layout_of l.table)
-unfolding reading_of
-reading_sound l e = ap (λ b. elim b as (λ _. Reading) [ true ↦ sound (layout_of l.table) | false ↦ unsound ]) e
-
-pub reading_none : (l : Loaded) → l.sound ≡ false → reading_of l ≡ unsound
-unfolding reading_of
-reading_none l e = ap (λ b. elim b as (λ _. Reading) [ true ↦ sound (layout_of l.table) | false ↦ unsound ]) e

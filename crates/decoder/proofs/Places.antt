@@ -1,5 +1,5 @@
 -- Fields and pairs at a place of the bytes, for any width of a field. Assumes nothing.
-use mathlib.Core.Bool.{cond, false, true}
+use mathlib.Core.Bool.{cond}
 use mathlib.Core.List.{List, [], ◌∷◌}
 use mathlib.Core.Path.{◌∙◌, ◌≡◌, ap, ap₂, refl, sym}
 use Prim.Native.Nat.{◌*◌, ◌+◌, ◌-◌, ◌<◌, ◌^◌, ◌≤◌, suc, zero, ℕ}
@@ -19,8 +19,7 @@ use Rattle.piece.specs.declared.Piece.{Piece}
 use Rattle.catalogue.specs.Reading.{Read, bad, got, read_field, read_from, read_pair, section_read, then}
 use Rattle.catalogue.specs.Encoding.{byte_values}
 use Rattle.section.proofs.Multiples.{below_or_not}
-use Rattle.decoder.specs.Fields.{FieldAt, PairAt, pair_in}
-use Rattle.decoder.specs.declared.PairRead.{PairRead}
+use Rattle.decoder.specs.Fields.{FieldAt, SomePairAt}
 use Rattle.section.proofs.Lengths.{length-greatest, length-of-height}
 use Rattle.section.specs.Heights.{height_of}
 use Rattle.section.specs.Limits.{greatest_disk, greatest_height}
@@ -156,28 +155,9 @@ module _ (w : ℕ) where
     pub pair_none : height_of n ≡ None → read_pair w (drop at s) ≡ bad
     pair_none e = pair_at_lem s at x n p q ∙ ap (λ m. section_read x m (drop (at + 2 * w) s)) e
 
-pub pair_got : (p : PairRead) (r : List ℕ) → p.ok ≡ true → pair_in p r ≡ got (section_in p.piece) r
-unfolding pair_in
-pair_got p r e = rw e
-
-pub pair_bad : (p : PairRead) (r : List ℕ) → p.ok ≡ false → pair_in p r ≡ bad
-unfolding pair_in
-pair_bad p r e = rw e
-
-pub no_pair_at : (w : ℕ) (s : List ℕ) (at : ℕ) (p : PairRead) → read_pair w (drop at s) ≡ bad
-    → (p.ok ≡ false) × (p.length ≡ 1) × ((section_in p.piece).height.value ≡ 0) → PairAt w s at p
-no_pair_at w s at p e k =
-    record {
-      meaning = e ∙ sym (pair_bad p _ k.0);
-      equal = k.1 ∙ sym (ap (λ h. 2 ^ h) k.2);
-      most = omega (arith, k.1);
-      inside = λ t. absurd (let z : ◌≡◌ {A = ℕ} 0 1 = cc (t, k.0) in omega arith);
-    }
-
 pub some_pair_at : (w : ℕ) (s : List ℕ) (at x n : ℕ) → FieldAt w s at x → FieldAt w s (at + w) n → (h : Height)
     → x < greatest_disk → height_of n ≡ Some h → at + 2 * w ≤ length s → (z : Piece)
-    → section_in z ≡ record { first = x; height = h } → PairAt w s at (record { ok = true; length = n; piece = z })
-unfolding pair_in
+    → section_in z ≡ record { first = x; height = h } → SomePairAt w s at (record { length = n; piece = z })
 some_pair_at w s at x n p q h lt e l z k =
     let y = length-of-height n h e in
     record {
@@ -185,5 +165,5 @@ some_pair_at w s at x n p q h lt e l z k =
           pair_section w s at x n p q h lt e ∙ ap (λ a. got a (drop (at + 2 * w) s)) (sym k);
       equal = y.1 ∙ sym (ap length_of k);
       most = omega (arith, y.1, pow_mono {i = h.value} {j = greatest_height} y.0, length-greatest);
-      inside = λ _. l;
+      inside = l;
     }

@@ -2,7 +2,6 @@
 use Rattle.piece.specs.Packed.{seen, section_in}
 use Rattle.piece.proofs.Seen.{seen-length, seen-set}
 use Rattle.piece.specs.declared.Piece.{Piece}
-use mathlib.Core.Bool.{false, true}
 use mathlib.Core.List.{List, [], ◌++◌, ◌∷◌, append-nil}
 use mathlib.Core.Path.{◌∙◌, ◌≡◌, ap, refl, sym}
 use Prim.Native.Nat.{◌*◌, ◌+◌, ◌-◌, ◌<◌, ◌≤◌, suc, zero, ℕ}
@@ -11,11 +10,9 @@ use lib.ListN.{drop, length, set, take}
 use lib.Seq.{append_snoc, length-take-le}
 use Rattle.catalogue.proofs.ReadOnly.{got_value, then_inv}
 use Rattle.catalogue.specs.Reading.{Read, bad, got, read_pair, read_pairs, then}
-use Rattle.decoder.proofs.Places.{pair_bad, pair_got}
 use Rattle.soundness.proofs.Joined.{pushed}
-use Rattle.decoder.specs.Fields.{PairAt, PairsAt, pairs_in}
+use Rattle.decoder.specs.Fields.{SomePairAt, SomePairsAt}
 use Rattle.decoder.specs.declared.PairRead.{PairRead}
-use Rattle.decoder.specs.declared.PairsRead.{PairsRead}
 use Rattle.layout.proofs.Lists.{sum-append}
 use Rattle.layout.specs.Layout.{block_count}
 use Rattle.layout.specs.Lists.{sum_of}
@@ -84,26 +81,25 @@ left_start w s at count items =
     zero_less : count - 0 ≡ count
     zero_less = omega arith
 
-module _ (w : ℕ) (s : List ℕ) (count next i : ℕ) (items : List Piece) (h : i < count) (p : PairRead)
-    (q : PairAt w s next p) where
+module _ (w : ℕ) (s : List ℕ) (count next i : ℕ) (items : List Piece) (h : i < count) where
   one_less : count - i ≡ suc (count - (i + 1))
   one_less = omega arith
 
-  pub left_more : p.ok ≡ true → i < length items
+  pub left_more : (p : PairRead) → SomePairAt w s next p → i < length items
       → Left w s count (next + 2 * w) (i + 1) (set items i p.piece) ≡ Left w s count next i items
-  left_more e l =
+  left_more p q l =
       ap (λ z. read_after z (PairsLeft w (count - (i + 1)) (drop (next + 2 * w) s)))
       (ap (take (i + 1)) (seen-set items i p.piece)
       ∙ pushed (seen items) i (section_in p.piece) (omega (arith, seen-length items)))
       ∙ (sym
       (pairs_step w (count - (i + 1)) (drop next s) (take i (seen items)) (section_in p.piece) (drop (next + 2 * w) s)
-      (q.meaning ∙ pair_got p _ e))
+      q.meaning)
       ∙ ap (λ n. read_after (take i (seen items)) (PairsLeft w n (drop next s))) (sym one_less))
 
-  pub left_bad : p.ok ≡ false → Left w s count next i items ≡ bad
+  pub left_bad : read_pair w (drop next s) ≡ bad → Left w s count next i items ≡ bad
   left_bad e =
       ap (λ n. read_after (take i (seen items)) (PairsLeft w n (drop next s))) one_less
-      ∙ pairs_stop w (count - (i + 1)) (drop next s) (take i (seen items)) (q.meaning ∙ pair_bad p _ e)
+      ∙ pairs_stop w (count - (i + 1)) (drop next s) (take i (seen items)) e
 
 pub left_end : (w : ℕ) (s : List ℕ) (count next : ℕ) (items : List Piece)
     → Left w s count next count items ≡ got (take count (seen items)) (drop next s)
@@ -114,41 +110,19 @@ left_end w s count next items =
     none_left : count - count ≡ 0
     none_left = omega arith
 
-pub no_pairs-at : (w : ℕ) (s : List ℕ) (at n : ℕ) (p : PairsRead) → PairsLeft w n (drop at s) ≡ bad
-    → (p.ok ≡ false) × (p.sum ≡ 0) × (p.list.count ≡ 0) → PairsAt w s at n p
-unfolding pairs_in list_of
-no_pairs-at w s at n p e k =
-    record {
-      meaning = e ∙ sym (rw k.0 refl);
-      equal = k.1 ∙ sym (ap (λ m. block_count (take m (seen p.list.items))) k.2);
-      most = omega (arith, k.1);
-      count = λ t. absurd (let z : ◌≡◌ {A = ℕ} 0 1 = cc (t, k.0) in omega arith);
-      places = omega (arith, k.2);
-      exact = ap (λ m. length (take m (seen p.list.items))) k.2 ∙ sym k.2;
-      inside = λ t. absurd (let z : ◌≡◌ {A = ℕ} 0 1 = cc (t, k.0) in omega arith);
-    }
-
 pub some_pairs_at : (w : ℕ) (s : List ℕ) (at n sum end : ℕ) (items : List Piece)
     → PairsLeft w n (drop at s) ≡ got (take n (seen items)) (drop end s)
     → sum ≡ block_count (take n (seen items)) → sum ≤ greatest_disk * n → n ≤ piece_places → n ≤ length items
     → end ≤ length s
-    → PairsAt w s at n (record { ok = true; sum = sum; end = end; list = record { count = n; items = items } })
-unfolding pairs_in list_of
+    → SomePairsAt w s at n (record { sum = sum; end = end; list = record { count = n; items = items } })
+unfolding list_of
 some_pairs_at w s at n sum end items e q m h k l =
     record {
       meaning = e;
       equal = q;
       most = omega arith;
-      count = λ _. refl;
+      count = refl;
       places = h;
       exact = length-take-le n (seen items) (omega (arith, seen-length items));
-      inside = λ _. l;
+      inside = l;
     }
-
-pub pairs_got : (p : PairsRead) (r : List ℕ) → p.ok ≡ true → pairs_in p r ≡ got (list_of p.list) r
-unfolding pairs_in
-pairs_got p r e = rw e
-
-pub pairs_bad : (p : PairsRead) (r : List ℕ) → p.ok ≡ false → pairs_in p r ≡ bad
-unfolding pairs_in
-pairs_bad p r e = rw e

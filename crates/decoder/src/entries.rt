@@ -3,11 +3,11 @@ ghost use Rattle.std.specs.Prelude.{◌≡◌, ◌≤◌};
 ghost use Rattle.catalogue.specs.Version.{widest_field};
 ghost use Rattle.layout.specs.Layout.{block_count};
 ghost use Rattle.piece_lists.specs.Few.{list_of, piece_places};
-ghost use Rattle.decoder.specs.Entries.{EntryAt, NoFile, is_file};
+ghost use Rattle.decoder.specs.Entries.{EntryAt, is_file};
 
 use crate::EntryRead;
 use crate::fields::{read_field, read_pairs};
-use crate::pieces::{no_entry, sorted};
+use crate::pieces::sorted;
 use catalogue::Version;
 use piece_lists::Pieces;
 use soundness::in_order;
@@ -29,48 +29,30 @@ fn is_file(id: u32, n: u32, sum: u32, list: Pieces) -> bool
     in_order(list)
 }
 
-// No file, of a reading that failed.
-fn no_file() -> EntryRead
-    ensures { NoFile result }
-{
-    let entry = no_entry(0);
-    EntryRead {
-        ok: false,
-        n: 0,
-        size: 0,
-        entry,
-    }
-}
-
 // The entry at the front of a part of the catalogue. A file of more pieces than an entry has places is in no sound
 // layout.
-pub fn read_entry(s: &[u8], width: usize) -> EntryRead
+pub fn read_entry(s: &[u8], width: usize) -> Option<EntryRead>
     requires { width ≤ widest_field }
     ensures { EntryAt width s.now result }
 {
     let front = Version::SHORT_FIELD + width;
     if s.len() < front {
-        return no_file();
+        return None;
     }
     let id = read_field(s, 0, Version::SHORT_FIELD);
     let n = read_field(s, Version::SHORT_FIELD, width);
     let count = u32::count_ones(n) as usize;
     if Pieces::PLACES < count {
-        return no_file();
+        return None;
     }
-    let pairs = read_pairs(s, front, count, width);
-    if !pairs.ok {
-        return no_file();
+    let pairs = read_pairs(s, front, count, width)?;
+    if !is_file(id, n, pairs.sum, pairs.list) {
+        return None;
     }
-    let list = pairs.list;
-    if !is_file(id, n, pairs.sum, list) {
-        return no_file();
-    }
-    let entry = sorted(id, list);
-    EntryRead {
-        ok: true,
+    let entry = sorted(id, pairs.list);
+    Some(EntryRead {
         n,
         size: pairs.end,
         entry,
-    }
+    })
 }

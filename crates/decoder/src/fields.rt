@@ -1,8 +1,7 @@
 // Fields and pairs of fields, read at a place of the catalogue.
-ghost use Rattle.std.specs.Prelude.{◌≡◌, true, false, ◌+◌, ◌<◌, ◌≤◌, length};
+ghost use Rattle.std.specs.Prelude.{◌≡◌, ◌+◌, ◌<◌, ◌≤◌, length};
 ghost use Rattle.catalogue.specs.Version.{short_field, widest_field};
 ghost use Rattle.piece_lists.specs.Few.{piece_places};
-ghost use Rattle.piece.specs.Packed.{section_in};
 ghost use Rattle.decoder.specs.Fields.{FieldAt, PairAt, PairsAt};
 
 use crate::{PairRead, PairsRead};
@@ -42,58 +41,26 @@ pub fn read_field(s: &[u8], at: usize, width: usize) -> u32
     value
 }
 
-fn no_pair() -> PairRead
-    ensures { (result.ok ≡ false) × (result.length ≡ 1) × ((section_in result.piece).height.value ≡ 0) }
-{
-    PairRead {
-        ok: false,
-        length: 1,
-        piece: Piece { word: 0 },
-    }
-}
-
 // The pair at a place, if the bytes reach that far, its length is one, and its first block can be one of a disk.
-fn read_pair(s: &[u8], at: usize, width: usize) -> PairRead
+fn read_pair(s: &[u8], at: usize, width: usize) -> Option<PairRead>
     requires { (at ≤ length s.now) × (width ≤ widest_field) }
     ensures { PairAt width s.now at result }
 {
     if s.len() - at < 2 * width {
-        return no_pair();
+        return None;
     }
     let first = read_field(s, at, width);
     let length = read_field(s, at + width, width);
     if Section::GREATEST_DISK <= first {
-        return no_pair();
+        return None;
     }
-    let Some(height) = Height::of_length(length) else {
-        return no_pair();
-    };
+    let height = Height::of_length(length)?;
     let piece = Piece::of(Section { first, height });
-    PairRead {
-        ok: true,
-        length,
-        piece,
-    }
-}
-
-// No pairs, of a reading that failed.
-fn no_pairs() -> PairsRead
-    ensures { (result.ok ≡ false) × (result.sum ≡ 0) × (result.list.count ≡ 0) }
-{
-    let none = Piece { word: 0 };
-    PairsRead {
-        ok: false,
-        sum: 0,
-        end: 0,
-        list: Pieces {
-            count: 0,
-            items: [none; Pieces::PLACES],
-        },
-    }
+    Some(PairRead { length, piece })
 }
 
 // The pairs from a place on, `count` of them.
-pub fn read_pairs(s: &[u8], at: usize, count: usize, width: usize) -> PairsRead
+pub fn read_pairs(s: &[u8], at: usize, count: usize, width: usize) -> Option<PairsRead>
     requires { (at ≤ length s.now) × (count ≤ piece_places) × (width ≤ widest_field) }
     ensures { PairsAt width s.now at count result }
 {
@@ -103,20 +70,15 @@ pub fn read_pairs(s: &[u8], at: usize, count: usize, width: usize) -> PairsRead
     let mut end = at;
     let mut i: usize = 0;
     while i < count {
-        let pair = read_pair(s, end, width);
-        if !pair.ok {
-            return no_pairs();
-        }
-        let piece = pair.piece;
-        items[i] = piece;
+        let pair = read_pair(s, end, width)?;
+        items[i] = pair.piece;
         sum += pair.length;
         end += 2 * width;
         i += 1;
     }
-    PairsRead {
-        ok: true,
+    Some(PairsRead {
         sum,
         end,
         list: Pieces { count, items },
-    }
+    })
 }

@@ -1,5 +1,5 @@
 // The whole catalogue, read into a table.
-ghost use Rattle.std.specs.Prelude.{◌≡◌, true, false, ◌-◌, ◌≤◌, length};
+ghost use Rattle.std.specs.Prelude.{◌≡◌, ◌-◌, ◌≤◌, length};
 ghost use Rattle.catalogue.specs.Version.{Served};
 ghost use Rattle.soundness.specs.Counts.{Exact};
 ghost use Rattle.decoder.specs.Loading.{HeaderAt, TableAt};
@@ -32,19 +32,6 @@ pub fn no_table() -> Table
     }
 }
 
-fn unread() -> TableRead
-    ensures { (result.ok ≡ false) × (result.at ≡ 0) × Exact result.table }
-{
-    let table = no_table();
-    TableRead {
-        ok: false,
-        sum: 0,
-        free: 0,
-        at: 0,
-        table,
-    }
-}
-
 // The blocks of a disk that the files leave, or 0 where they have more.
 fn left_free(blocks: u32, sum: u32) -> u32
     ensures { (result ≡ blocks - sum) × (result ≤ blocks) }
@@ -57,7 +44,7 @@ fn left_free(blocks: u32, sum: u32) -> u32
 
 // The table after the header: the entries, each read from its own part of the catalogue, and the free pairs, which are
 // few in a sound layout. One function fills the array and makes the table, since an array that is passed on is copied.
-fn read_body(cat: &[u8], version: Version, blocks: u32, count: usize) -> TableRead
+fn read_body(cat: &[u8], version: Version, blocks: u32, count: usize) -> Option<TableRead>
     requires { Served version × (length cat.now ≡ version.bytes) × HeaderAt version cat.now blocks count }
     ensures { TableAt version cat.now result }
 {
@@ -68,28 +55,19 @@ fn read_body(cat: &[u8], version: Version, blocks: u32, count: usize) -> TableRe
     let mut sum: u32 = 0;
     let mut i: usize = 0;
     while i < count {
-        let read = read_entry(&cat[at..], width);
-        if !read.ok {
-            return unread();
-        }
-        let entry = read.entry;
-        files[i] = entry;
+        let read = read_entry(&cat[at..], width)?;
+        files[i] = read.entry;
         at += read.size;
         sum += read.n;
         i += 1;
     }
     let ones = u32::count_ones(left_free(blocks, sum)) as usize;
     if Pieces::PLACES < ones {
-        return unread();
+        return None;
     }
-    let pairs = read_pairs(cat, at, ones, width);
-    if !pairs.ok {
-        return unread();
-    }
-    let list = pairs.list;
-    let free = Free::of(list);
-    TableRead {
-        ok: true,
+    let pairs = read_pairs(cat, at, ones, width)?;
+    let free = Free::of(pairs.list);
+    Some(TableRead {
         sum,
         free: pairs.sum,
         at: pairs.end,
@@ -99,26 +77,26 @@ fn read_body(cat: &[u8], version: Version, blocks: u32, count: usize) -> TableRe
             files,
             free,
         },
-    }
+    })
 }
 
 // The table of the catalogue: the header, the entries and the free pairs.
-pub fn read_table(cat: &[u8], version: Version) -> TableRead
+pub fn read_table(cat: &[u8], version: Version) -> Option<TableRead>
     requires { Served version × (length cat.now ≡ version.bytes) }
     ensures { TableAt version cat.now result }
 {
     let width = version.width;
     let number = read_field(cat, 0, Version::SHORT_FIELD);
     if number != version.number {
-        return unread();
+        return None;
     }
     let blocks = read_field(cat, Version::SHORT_FIELD, width);
     let count = read_field(cat, Version::SHORT_FIELD + width, Version::SHORT_FIELD) as usize;
     if Section::MOST_FILES < count {
-        return unread();
+        return None;
     }
     if version.greatest_blocks() < blocks {
-        return unread();
+        return None;
     }
     read_body(cat, version, blocks, count)
 }

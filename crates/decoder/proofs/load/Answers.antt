@@ -1,26 +1,19 @@
--- `decoder::load` meets its contract: the table if it is sound, and none of its free pieces if not. Assumes nothing.
-use Rattle.decoder.proofs.Judging.{loaded_none, loaded_sound}
+-- `decoder::load` meets its contract: the table if it is sound. Assumes nothing.
+use mathlib.Core.Path.{◌∙◌, ap, refl, sym}
+use Rattle.decoder.specs.Loading.{reading_of}
 use Rattle.decoder.proofs.load.Goals as goal
 
-pub is_sound_read-sound-requires : goal.is_sound_read-sound-requires
-is_sound_read-sound-requires c = (c.requires.0, c.read_table-read.ensures)
+pub returns-in_err-read-clause-reading : goal.returns-in_err-read-clause-reading
+unfolding reading_of
+returns-in_err-read-clause-reading c = ap reading_of c.from_residual.ensures ∙ sym c.in_err-read.ensures
 
-pub returns-then-not-sound : goal.returns-then-not-sound
-returns-then-not-sound c =
-    let whole = (loaded_none _ _ _ _ c.is_sound_read-sound.ensures
-    c.read_table-read.ensures.exact
-    c.if-not-sound.true) in
+pub returns-then-is_sound_read : goal.returns-then-is_sound_read
+returns-then-is_sound_read c =
+    let j = c.if-is_sound_read.ensures in
     record {
-      reading = whole.0;
-      ready = whole.1;
+      reading = j.reading;
+      ready = record { exact = c.in_ok-read.ensures.exact; few_free = j.few_free refl };
     }
 
-pub returns-else-not-sound : goal.returns-else-not-sound
-returns-else-not-sound c =
-    let whole = (loaded_sound _ _ _ _ c.is_sound_read-sound.ensures
-    c.read_table-read.ensures.exact
-    c.if-not-sound.false) in
-    record {
-      reading = whole.0;
-      ready = whole.1;
-    }
+pub returns-else-is_sound_read-clause-reading : goal.returns-else-is_sound_read-clause-reading
+returns-else-is_sound_read-clause-reading c = c.if-is_sound_read.ensures.reading

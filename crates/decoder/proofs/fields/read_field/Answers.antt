@@ -1,7 +1,7 @@
 -- `decoder::fields::read_field` meets its contract: byte by byte the number of the field, for any width, and at
 -- once one of 2 bytes. Assumes nothing.
 use mathlib.Core.Path.{◌≡◌, ◌∙◌, ap, subst, sym}
-use Prim.Native.Nat.{◌*◌, ◌+◌, ◌-◌, ◌<◌, ◌^◌}
+use Prim.Native.Nat.{◌*◌, ◌+◌, ◌<◌, ◌^◌}
 use native.Mathlib.Omega.{arith}
 use Rattle.catalogue.specs.Encoding.{byte_values}
 use Rattle.decoder.specs.Fields.{FieldAt}

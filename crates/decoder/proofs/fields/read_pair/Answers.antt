@@ -1,35 +1,35 @@
--- `decoder::fields::read_pair` meets its contract: two fields are the pair, if the second is a length and the first can
--- be a block of a disk. Assumes nothing.
-use mathlib.Core.Path.{◌∙◌, sym}
+-- `decoder::fields::read_pair` meets its contract: two fields are the pair, if the second is a length and the first
+-- can be a block of a disk. Assumes nothing.
+use mathlib.Core.Path.{sym}
 use native.Mathlib.Omega.{arith}
 use Rattle.section.proofs.Lengths.{length-of-height}
-use Rattle.decoder.proofs.Places.{no_pair_at, pair_far, pair_none, pair_short, some_pair_at}
+use Rattle.decoder.proofs.Places.{pair_far, pair_none, pair_short, some_pair_at}
 use Rattle.decoder.proofs.fields.read_pair.Goals as goal
 
 pub returns-then-s-at : goal.returns-then-s-at
 returns-then-s-at c =
-    no_pair_at _ _ _ _ (pair_short c.args.width c.args.s.now c.args.at c.if-s-at.true) c.no_pair.ensures
+    pair_short c.args.width c.args.s.now c.args.at c.if-s-at.true
 
 pub returns-then-first-ge-GREATEST_DISK : goal.returns-then-first-ge-GREATEST_DISK
 returns-then-first-ge-GREATEST_DISK c =
-    no_pair_at _ _ _ _ (pair_far c.args.width c.args.s.now c.args.at _ _ c.read_field-first.ensures
-    c.read_field-length.ensures c.if-first-ge-GREATEST_DISK.true) c.no_pair-then-first-ge-GREATEST_DISK.ensures
+    pair_far c.args.width c.args.s.now c.args.at _ _ c.read_field-first.ensures
+    c.read_field-length.ensures c.if-first-ge-GREATEST_DISK.true
 
 pub of-piece-requires : goal.of-piece-requires
 of-piece-requires c =
-    let l = (length-of-height _ _ (sym c.in-Some.ensures)).0 in
+    let l = (length-of-height _ _ (sym c.in_ok-height.ensures)).0 in
     record { first = omega (arith, c.if-first-ge-GREATEST_DISK.false); height = omega (arith, l) }
 
 pub returns : goal.returns
 returns c =
     some_pair_at c.args.width c.args.s.now c.args.at _ _ c.read_field-first.ensures c.read_field-length.ensures _
     (omega (arith, c.if-first-ge-GREATEST_DISK.false))
-    (sym c.in-Some.ensures)
+    (sym c.in_ok-height.ensures)
     (omega arith) _
     c.of-piece.ensures.holds
 
-pub returns-in_default : goal.returns-in_default
-returns-in_default c =
-    no_pair_at _ _ _ _ (pair_none c.args.width c.args.s.now c.args.at _ _ c.read_field-first.ensures
-    c.read_field-length.ensures (sym c.in_default.ensures))
-    c.no_pair-in_default.ensures
+pub returns-in_err-height : goal.returns-in_err-height
+returns-in_err-height c =
+    rw c.from_residual.ensures
+    (pair_none c.args.width c.args.s.now c.args.at _ _ c.read_field-first.ensures
+    c.read_field-length.ensures (sym c.in_err-height.ensures))

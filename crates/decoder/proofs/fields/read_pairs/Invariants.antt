@@ -14,7 +14,8 @@ abbrev pub invariant-loop-i : goal.invariant-loop-i
 invariant-loop-i l =
     (l.i ≤ l.count) × (l.count ≤ piece_places) × (l.end ≤ length l.s) × (length l.items ≡ piece_places)
     × (l.sum ≤ greatest_disk * l.i) × (l.sum ≡ block_count (take l.i (seen l.items)))
-    × (Left l.width l.s l.count l.end l.i l.items ≡ PairsLeft l.width l.count (drop l.at l.s)) × (l.width ≤ widest_field)
+    × (Left l.width l.s l.count l.end l.i l.items ≡ PairsLeft l.width l.count (drop l.at l.s))
+    × (l.width ≤ widest_field)
 
 abbrev pub decreases-loop-i : goal.decreases-loop-i
 decreases-loop-i l = l.count - l.i

@@ -1,14 +1,12 @@
 -- `decoder::tables::read_body` meets its contract: the files so far, before those left to read, and then the table.
 -- Assumes nothing.
 use mathlib.Core.Path.{◌≡◌, refl}
-use Prim.Native.Nat.{◌-◌}
 use native.Mathlib.Omega.{arith}
 use lib.Count.{ones-le}
-use borrow.Author.Tests.{not-true, not-false}
 use Rattle.section.specs.Limits.{most_files}
 use Rattle.piece_lists.proofs.EachItem.{each_replicate}
 use Rattle.decoder.proofs.Filled.{filled_bad, filled_inside, filled_more, filled_start}
-use Rattle.decoder.proofs.Tabled.{table_at, unread-at, unread-free, unread_many}
+use Rattle.decoder.proofs.Tabled.{table_at, unread-free, unread_many}
 use Rattle.decoder.proofs.Whole.{bad_files}
 use Rattle.decoder.proofs.tables.read_body.Goals as goal
 
@@ -26,15 +24,11 @@ loop-i-init c = (
       (each_replicate most_files c.no_entry-blank.result (omega (arith, c.no_entry-blank.ensures.1))),
 )
 
-pub returns-then-not-read : goal.returns-then-not-read
-returns-then-not-read c =
-    let v = c.loop-i.invariant in
-    unread-at _ _ _
+pub returns-in_err-read : goal.returns-in_err-read
+returns-in_err-read c =
+    rw c.from_residual.ensures
     (bad_files _ c.requires.0 _ _ _ c.requires.2
-    (filled_bad _ _ _ _ _ _ _ v.2 c.loop-i-test.true v.1.0 _
-    c.read_entry-read.ensures
-    (not-true _ c.if-not-read.true)))
-    c.unread.ensures
+    (filled_bad _ _ _ _ _ _ _ c.loop-i.invariant.2 c.loop-i-test.true c.in_err-read.ensures))
 
 pub overflow_add-at-in-loop-i : goal.overflow_add-at-in-loop-i
 overflow_add-at-in-loop-i c =
@@ -42,11 +36,11 @@ overflow_add-at-in-loop-i c =
     omega (
       arith,
       filled_inside _ _ _ _ _ _ _ v.2 c.loop-i-test.true
-          v.1.0 _ c.read_entry-read.ensures,
+          v.1.0 _ c.in_ok-read.ensures,
     )
 
 pub overflow_add-sum : goal.overflow_add-sum
-overflow_add-sum c = omega (arith, c.read_entry-read.ensures.most)
+overflow_add-sum c = omega (arith, c.in_ok-read.ensures.most)
 
 pub loop-i-preserved : goal.loop-i-preserved
 loop-i-preserved c =
@@ -54,8 +48,7 @@ loop-i-preserved c =
       v.0,
       v.1,
       filled_more _ _ _ _ _ _ _ v.2 c.loop-i-test.true
-          v.1.0 _ c.read_entry-read.ensures
-          (not-false _ c.if-not-read.false),
+          v.1.0 _ c.in_ok-read.ensures,
     )
 
 pub overflow_cast-ones : goal.overflow_cast-ones
@@ -72,28 +65,24 @@ pub returns-then-ones-gt-PLACES : goal.returns-then-ones-gt-PLACES
 returns-then-ones-gt-PLACES c =
     let v = c.loop-i.invariant in
     let e : c.loop-i.i ≡ c.args.count = omega (arith, c.loop-i-test.false) in
-    unread-at _ _ _ (unread_many _ c.requires.0 _ _ _ c.requires.2 _ _ _ _ v.2 e _ c.left_free.ensures.0
-    c.if-ones-gt-PLACES.true)
-    c.unread-then-ones-gt-PLACES.ensures
+    unread_many _ c.requires.0 _ _ _ c.requires.2 _ _ _ _ v.2 e _ c.left_free.ensures.0
+    c.if-ones-gt-PLACES.true
 
-pub read_pairs-pairs-requires : goal.read_pairs-pairs-requires
-read_pairs-pairs-requires c =
+pub read_pairs-requires : goal.read_pairs-requires
+read_pairs-requires c =
     let v = c.loop-i.invariant in
     (v.2.inside, c.if-ones-gt-PLACES.false, v.1.1)
 
-pub returns-then-not-pairs : goal.returns-then-not-pairs
-returns-then-not-pairs c =
+pub returns-in_err-pairs : goal.returns-in_err-pairs
+returns-in_err-pairs c =
     let v = c.loop-i.invariant in
     let e : c.loop-i.i ≡ c.args.count = omega (arith, c.loop-i-test.false) in
-    unread-at _ _ _
-    (unread-free _ c.requires.0 _ _ _ c.requires.2 _ _ _ _ v.2 e _ c.left_free.ensures.0 _
-    c.read_pairs-pairs.ensures (not-true _ c.if-not-pairs.true))
-    c.unread-then-not-pairs.ensures
+    rw c.from_residual-in_err-pairs.ensures
+    (unread-free _ c.requires.0 _ _ _ c.requires.2 _ _ _ _ v.2 e _ c.left_free.ensures.0 c.in_err-pairs.ensures)
 
 pub returns : goal.returns
 returns c =
     let v = c.loop-i.invariant in
     let e : c.loop-i.i ≡ c.args.count = omega (arith, c.loop-i-test.false) in
     table_at _ c.requires.0 _ _ _ c.requires.2 _ _ _ _ v.2 e _ c.left_free.ensures.0 _
-    c.read_pairs-pairs.ensures _ c.of-free.ensures
-    (not-false _ c.if-not-pairs.false)
+    c.in_ok-pairs.ensures _ c.of-free.ensures

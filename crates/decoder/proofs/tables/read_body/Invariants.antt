@@ -9,8 +9,8 @@ use Rattle.decoder.proofs.tables.read_body.Given as goal
 
 abbrev pub invariant-loop-i : goal.invariant-loop-i
 invariant-loop-i l =
-    (length l.cat ≤ large_catalogue) × ((l.count ≤ most_files) × (l.width ≤ widest_field)) × FilesAt l.width l.cat l.count l.files l.at
-    l.sum l.i
+    (length l.cat ≤ large_catalogue) × ((l.count ≤ most_files) × (l.width ≤ widest_field))
+    × FilesAt l.width l.cat l.count l.files l.at l.sum l.i
 
 abbrev pub decreases-loop-i : goal.decreases-loop-i
 decreases-loop-i l = l.count - l.i

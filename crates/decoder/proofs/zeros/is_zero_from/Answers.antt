@@ -1,7 +1,6 @@
 -- `decoder::zeros::is_zero_from` meets its contract: what is gathered and what is left are zero if all is. Assumes
 -- nothing.
 use mathlib.Core.Path.{◌∙◌, sym, refl}
-use Prim.Native.Nat.{◌-◌}
 use native.Mathlib.Omega.{arith}
 use lib.Dec.{eqb}
 use Rattle.decoder.proofs.ZeroBytes.{zero-end, zero_more}

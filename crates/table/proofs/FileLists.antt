@@ -1,5 +1,5 @@
 -- The files of a table: moved, without one, with one more. Assumes nothing.
-use mathlib.Core.Bool.{Bool, false, true}
+use mathlib.Core.Bool.{Bool}
 use mathlib.Core.List.{List, [], ◌++◌, ◌∷◌, map}
 use mathlib.Core.Path.{◌∙◌, ◌≡◌, ap, ap₂, refl, sym}
 use Prim.Native.Nat.{◌+◌, ◌-◌, suc, zero, ℕ}
@@ -28,12 +28,6 @@ no_lower_id i e = leb i e.id
 
 abbrev pub entry_has : ℕ → Entry → Bool
 entry_has i e = eqb e.id i
-
-pub place_map : {A B : Type 0} (q : B → Bool) (f : A → B) (l : List A)
-    → first_place (λ x. q (f x)) l ≡ first_place q (map f l)
-unfolding first_place
-place_map q f [] = refl
-place_map q f (a ∷ l) = ap (λ z. elim (q (f a)) as (λ _. ℕ) [ true ↦ 0 | false ↦ suc z ]) (place_map q f l)
 
 map-take : {A B : Type 0} (f : A → B) (k : ℕ) (l : List A) → take k (map f l) ≡ map f (take k l)
 map-take f zero l = refl

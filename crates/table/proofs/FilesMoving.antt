@@ -3,12 +3,13 @@ use mathlib.Core.Path.{◌∙◌, ◌≡◌, ap, ap₂, subst, sym}
 use Prim.Native.Nat.{◌+◌, ◌<◌, ◌≤◌, ℕ}
 use native.Mathlib.Omega.{arith}
 use lib.ListN.{get_or, length, set}
+use Rattle.std.specs.List.{position}
+use Rattle.std.specs.Prelude.{None}
 use Rattle.section.specs.Limits.{most_files}
 use Rattle.section.specs.Sections.{Addressable, buddy_of}
 use Rattle.section.specs.declared.Section.{Section}
 use Rattle.piece_lists.proofs.EachItem.{each_get, each_taken}
 use Rattle.free_pieces.specs.Free.{Lists}
-use Rattle.piece_lists.specs.Places.{first_place}
 use Rattle.free_pieces.specs.declared.Pair.{Pair}
 use Rattle.table.proofs.MapFirst.{file_stays, length-map_first, map_first-at, map_first-kept, map_first_more}
 use Rattle.table.proofs.MapFirst.{map_first-none}
@@ -88,7 +89,7 @@ module _ (p : Pair) (b u : Section) (m : ℕ) (t₀ t : Table) (i : ℕ) (g : Fi
 
   -- the next file has no piece to move
   pub moving-kept : i < m
-      → (get_or t.files i no_entry).pieces.count ≤ first_place (lies_in b) (pieces_in (get_or t.files i no_entry))
+      → position (lies_in b) (pieces_in (get_or t.files i no_entry)) ≡ None
       → FilesMoving p b u m t₀ t (i + 1)
   moving-kept h k =
       next_turn t h

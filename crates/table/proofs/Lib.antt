@@ -1,5 +1,6 @@
 -- Laws of tables, and the proofs of the functions.
 pub mod SoundStock
+pub mod MappedPlaces
 pub mod MapFirst
 pub mod FileLists
 pub mod FreeLists

@@ -1,6 +1,10 @@
 -- A list whose first i items have been replaced by g of them: what a loop that maps an array in place has after i
 -- turns. Assumes nothing.
+use Rattle.std.specs.List.{position}
+use Rattle.std.specs.Option.{unwrap_or}
+use Rattle.std.specs.Prelude.{None}
 use Rattle.piece_lists.specs.Few.{list_of}
+use Rattle.piece_lists.proofs.FoundPlaces.{first_place-found}
 use Rattle.piece.specs.Packed.{seen, section_in, piece_of, FitsWord}
 use Rattle.piece.proofs.Packing.{packed, repacked}
 use Rattle.piece.specs.declared.Piece.{Piece}
@@ -75,7 +79,8 @@ module _ {A : Type 0} (g : A → A) where
 
 -- ---- a file with no piece inside b stays as it is
 
-pieces_stay : (b u : Section) (n : ℕ) (l : List Piece) → n ≤ first_place (lies_in b) (take n (seen l))
+pieces_stay : (b u : Section) (n : ℕ) (l : List Piece)
+    → length (take n (seen l)) ≤ first_place (lies_in b) (take n (seen l))
     → map_first (moved_piece b u) n l ≡ l
 unfolding map_first first_place moved_into moved_piece seen
 pieces_stay b u n [] h = refl
@@ -85,20 +90,25 @@ pieces_stay b u (suc n) (p ∷ l) h = go (is_inside (section_in p) b) h (λ k. p
     s : Section
     s = section_in p
 
-    go : (t : Bool) → suc n ≤ elim t as (λ _. ℕ) [ true ↦ 0 | false ↦ suc (first_place (lies_in b) (take n (seen l))) ]
-        → (n ≤ first_place (lies_in b) (take n (seen l)) → map_first (moved_piece b u) n l ≡ l)
+    rest : List Section
+    rest = take n (seen l)
+
+    go : (t : Bool) → suc (length rest) ≤ elim t as (λ _. ℕ) [ true ↦ 0 | false ↦ suc (first_place (lies_in b) rest) ]
+        → (length rest ≤ first_place (lies_in b) rest → map_first (moved_piece b u) n l ≡ l)
         → piece_of (cond t (section (u.first + (s.first - b.first)) s.height.value) s)
         ∷ map_first (moved_piece b u) n l
         ≡ p ∷ l
     go true k ih = absurd (omega arith)
     go false k ih = ap₂ (λ q m. q ∷ m) (repacked p) (ih (omega arith))
 
-pub file_stays : (b u : Section) (e : Entry) → e.pieces.count ≤ first_place (lies_in b) (pieces_in e)
-    → moved_entry b u e ≡ e
+pub file_stays : (b u : Section) (e : Entry) → position (lies_in b) (pieces_in e) ≡ None → moved_entry b u e ≡ e
 unfolding list_of
 file_stays b u e h =
+    let end : length (pieces_in e) ≡ first_place (lies_in b) (pieces_in e) =
+    ap (λ o. unwrap_or o (length (pieces_in e))) (sym h)
+    ∙ first_place-found (lies_in b) (pieces_in e) (length (pieces_in e)) refl in
     ap (λ (l : List Piece). record { id = e.id; pieces = record { count = e.pieces.count; items = l } })
-    (pieces_stay b u e.pieces.count e.pieces.items h)
+    (pieces_stay b u e.pieces.count e.pieces.items (omega (arith, end)))
 
 -- ---- what moves fits a word
 

@@ -1,5 +1,6 @@
 // The files of a table: one is put in by rising id.
-ghost use Rattle.std.specs.Prelude.{◌<◌, ◌≤◌};
+ghost use Rattle.std.specs.Prelude.{nat_le, ◌≡◌, ◌<◌, ◌≤◌};
+ghost use Rattle.std.specs.List.{position};
 ghost use Rattle.section.specs.Limits.{most_files};
 ghost use Rattle.free_pieces.specs.Free.{free_places};
 ghost use Rattle.table.specs.Tables.{InPlaces, Sized};
@@ -7,6 +8,13 @@ ghost use Rattle.table.specs.Files.{Adds};
 
 use crate::{Entry, Table};
 use free_pieces::Free;
+
+// Where the file of an id stands, or is to stand: at the first whose id is not lower.
+pub(crate) fn place_of(files: &[Entry], id: u32) -> Option<usize>
+    ensures { result ≡ position (λ x. nat_le id x.id) files.now }
+{
+    files.iter().position(|x| id <= x.id)
+}
 
 // The table with a new file, and what is free then. One function finds the place and moves the later files up,
 // since an array that is passed on is copied.

@@ -35,16 +35,9 @@ pub struct Table {
     pub free: Free,
 }
 
-// Where the file of an id stands, by how many files stand before it; or that there is none.
-#[derive(Clone, Copy)]
-pub enum FileAt {
-    Place(usize),
-    Missing,
-}
-
-// What a look-up gives: the file or none, and the number of ids read.
+// What a look-up gives: where the file stands, by how many files stand before it, or none; and the number of ids read.
 #[derive(Clone, Copy)]
 pub struct LookedUp {
-    pub file: FileAt,
+    pub file: Option<usize>,
     pub read: usize,
 }

@@ -1,21 +1,12 @@
 // The look-up of an id, which serves every call.
-ghost use Rattle.std.specs.Prelude.{◌≡◌, ◌≤◌};
+ghost use Rattle.std.specs.Prelude.{◌≤◌};
 ghost use Rattle.section.specs.Limits.{most_files};
 ghost use Rattle.layout.specs.LookingUp.{ByRisingId};
 ghost use Rattle.table.specs.Tables.{files_of};
-ghost use Rattle.table.specs.LookUps.{LooksUp, no_file};
+ghost use Rattle.table.specs.LookUps.{LooksUp};
 
-use crate::{FileAt, LookedUp, Table};
-
-// No file, after so many ids were read.
-fn none(read: usize) -> LookedUp
-    ensures { result ≡ no_file read }
-{
-    LookedUp {
-        file: FileAt::Missing,
-        read,
-    }
-}
+use crate::files::place_of;
+use crate::{LookedUp, Table};
 
 impl Table {
     // The file of an id. Ids are read from the lowest up, to the one sought or the first larger one, and counted as
@@ -25,24 +16,17 @@ impl Table {
         requires by_rising_id { ByRisingId (files_of self) }
         ensures { LooksUp self id result }
     {
-        let m = self.count;
-        let files = self.files;
-        let mut read: usize = 0;
-        let mut j: usize = 0;
-        while j < m {
-            let e = files[j];
-            read += 1;
-            if id < e.id {
-                return none(read);
-            }
-            if id == e.id {
-                return LookedUp {
-                    file: FileAt::Place(j),
-                    read,
-                };
-            }
-            j += 1;
-        }
-        none(read)
+        let Some(j) = place_of(&self.files[..self.count], id) else {
+            return LookedUp {
+                file: None,
+                read: self.count,
+            };
+        };
+        let file = if self.files[j].id == id {
+            Some(j)
+        } else {
+            None
+        };
+        LookedUp { file, read: j + 1 }
     }
 }

@@ -1,7 +1,9 @@
 // Moving: what lies inside one section goes to the same distance inside another.
 ghost use Rattle.std.specs.Prelude.{◌≡◌};
-ghost use Rattle.section.specs.Sections.{Addressable};
-ghost use Rattle.piece_lists.specs.Places.{IsPlace, first_place};
+ghost use Rattle.std.specs.List.{All, position};
+ghost use Rattle.section.specs.Sections.{Addressable, is_inside};
+ghost use Rattle.layout.specs.Lists.{Each};
+ghost use Rattle.piece.specs.Packed.{section_in, seen};
 ghost use Rattle.table.specs.Tables.{InPlaces, pieces_in};
 ghost use Rattle.table.specs.Moves.{CanMove, PiecesServed, lies_in, moved_entry};
 
@@ -10,26 +12,26 @@ use piece::Piece;
 use piece_lists::Pieces;
 use section::Section;
 
+// The place of the first of some pieces that lies inside `from`, if one does.
+fn place_within(pieces: &[Piece], from: Section) -> Option<usize>
+    requires addressable { Addressable from }
+    requires served { All (λ x. Addressable (section_in x)) pieces.now }
+    ensures { result ≡ position (λ x. is_inside (section_in x) from) pieces.now }
+{
+    pieces
+        .iter()
+        .position(|piece| piece.section().is_inside(from))
+}
+
 impl Entry {
-    // How many pieces stand before the first that lies inside `from`.
-    pub fn place_inside(self, from: Section) -> usize
+    // The place of the first piece that lies inside `from`, if one does.
+    pub fn place_inside(self, from: Section) -> Option<usize>
         requires in_places { InPlaces self }
         requires addressable { Addressable from }
         requires pieces_served { PiecesServed self }
-        ensures { IsPlace self.pieces.count (first_place (lies_in from) (pieces_in self)) result }
+        ensures { result ≡ position (lies_in from) (pieces_in self) }
     {
-        let list = self.pieces;
-        let m = list.count;
-        let mut place: usize = 0;
-        while place < m {
-            let piece = list.items[place];
-            let s = piece.section();
-            if s.is_inside(from) {
-                return place;
-            }
-            place += 1;
-        }
-        place
+        place_within(self.pieces.as_slice(), from)
     }
 
     // The file with its pieces moved.

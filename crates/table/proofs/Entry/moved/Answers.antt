@@ -5,7 +5,7 @@ use Rattle.piece.specs.declared.Piece.{Piece}
 use Rattle.layout.specs.Lists.{Each}
 use mathlib.Core.List.{List}
 use mathlib.Core.Path.{◌∙◌, ◌≡◌, ap, sym}
-use Prim.Native.Nat.{◌-◌, ◌≤◌, ℕ, ◌<◌}
+use Prim.Native.Nat.{◌≤◌, ℕ, ◌<◌}
 use native.Mathlib.Omega.{arith}
 use lib.ListN.{get_or, length, take}
 use borrow.Author.Rules.{rules}

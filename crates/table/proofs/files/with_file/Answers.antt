@@ -1,7 +1,7 @@
 -- `table::with_file` meets its contract: the files before the place have a lower id, and each turn moves one file more
 -- up a place. Assumes nothing.
 use mathlib.Core.Path.{◌∙◌, ◌≡◌, refl, sym}
-use Prim.Native.Nat.{◌+◌, ◌-◌}
+use Prim.Native.Nat.{◌+◌}
 use native.Mathlib.Omega.{arith}
 use lib.ListN.{drop, length, length-set, take}
 use borrow.Author.Rules.{rules}

@@ -12,12 +12,12 @@ use Rattle.calls.proofs.Refusing.{refused_makes}
 use Rattle.looking.proofs.LookChecks.{empty-unpaged, part_unpaged, whole_paged}
 use Rattle.looking.specs.Opened.{IsFree}
 use Rattle.calls.specs.Adding.{CanAdd, Places}
-use Rattle.looking.specs.Answers.{reply_of}
-use Rattle.calls.specs.Refusing.{refusing}
-use Rattle.looking.specs.declared.Answer.TheVariants as Answer·
+use Rattle.answers.specs.Answers.{number_of}
+use Rattle.std.specs.Prelude.{Ok, Err}
+use Rattle.answers.specs.declared.Refusal.TheVariants as Refusal·
 use Rattle.looking.specs.Opened.{Opened}
 use Rattle.calls.specs.Changing.{Makes, add_on}
-use Rattle.looking.specs.declared.Answer.{Answer}
+use Rattle.answers.specs.declared.Refusal.{Refusal}
 use Rattle.catalogue.specs.Encoding.{encode}
 use Rattle.catalogue.specs.declared.Version.{Version}
 use Rattle.layout.specs.Layout.{Layout, free_blocks, has_file}
@@ -34,19 +34,18 @@ use Rattle.table.specs.declared.Table.{Table}
 -- ---- the refusals
 
 module _ (t : Table) (o : Opened t) (i : ℕ) (bs d : List ℕ) where
-  abbrev Refuses : Answer → Type 0
-  Refuses a = Makes t.blocks (λ v cat. add_on v (layout_of t) i bs cat d) d (refusing a t)
+  abbrev Refuses : Refusal → Type 0
+  Refuses a = Makes t.blocks (λ v cat. add_on v (layout_of t) i bs cat d) d (Err a)
 
-  refuse : (k : ℕ) (a : Answer) → reply_of a ≡ refused k → first_refusal (checks (layout_of t) i bs d) ≡ refusal k
+  refuse : (k : ℕ) (a : Refusal) → number_of a ≡ k → first_refusal (checks (layout_of t) i bs d) ≡ refusal k
       → Refuses a
   refuse k a q e =
-      refused_makes (first_refusal (checks (layout_of t) i bs d)) k e a q d (λ v cat. act v (layout_of t) i bs cat d) t
-      o.sized
+      refused_makes (first_refusal (checks (layout_of t) i bs d)) k e a q d (λ v cat. act v (layout_of t) i bs cat d)
 
-  pub refuse-disk : (length d ≡ block_size * t.blocks → ⊥) → Refuses Answer·.DiskLength
+  pub refuse-disk : (length d ≡ block_size * t.blocks → ⊥) → Refuses Refusal·.DiskLength
   unfolding layout_of
   refuse-disk n =
-      refuse 4 Answer·.DiskLength refl
+      refuse 4 Refusal·.DiskLength refl
       (judge_4 (layout_of t) i bs d (ap not (ne_eqb (length d) (block_size * t.blocks) n)))
 
   module _ (right : length d ≡ block_size * t.blocks) where
@@ -54,38 +53,38 @@ module _ (t : Table) (o : Opened t) (i : ℕ) (bs d : List ℕ) where
     unfolding layout_of
     right_disk = ap not (eq-eqb (length d) (block_size * t.blocks) right)
 
-    pub refuse-zero : i ≡ 0 → Refuses Answer·.IdZero
-    refuse-zero z = refuse 5 Answer·.IdZero refl (judge_5 (layout_of t) i bs d right_disk (eq-eqb i 0 z))
+    pub refuse-zero : i ≡ 0 → Refuses Refusal·.IdZero
+    refuse-zero z = refuse 5 Refusal·.IdZero refl (judge_5 (layout_of t) i bs d right_disk (eq-eqb i 0 z))
 
     module _ (some : i ≡ 0 → ⊥) where
-      pub refuse_there : has_file i (layout_of t).files ≡ true → Refuses Answer·.IdThere
-      refuse_there e = refuse 7 Answer·.IdThere refl (judge_7 (layout_of t) i bs d right_disk (ne_eqb i 0 some) e)
+      pub refuse_there : has_file i (layout_of t).files ≡ true → Refuses Refusal·.IdThere
+      refuse_there e = refuse 7 Refusal·.IdThere refl (judge_7 (layout_of t) i bs d right_disk (ne_eqb i 0 some) e)
 
       module _ (fresh : has_file i (layout_of t).files ≡ false) where
-        pub refuse-empty : length bs ≡ 0 → Refuses Answer·.BufferLength
+        pub refuse-empty : length bs ≡ 0 → Refuses Refusal·.BufferLength
         refuse-empty z =
-            refuse 8 Answer·.BufferLength refl
+            refuse 8 Refusal·.BufferLength refl
             (judge_8 (layout_of t) i bs d right_disk (ne_eqb i 0 some) fresh (empty-unpaged bs z))
 
         module _ (full : length bs ≡ 0 → ⊥) where
-          pub refuse_part : (length bs % block_size ≡ 0 → ⊥) → Refuses Answer·.BufferLength
+          pub refuse_part : (length bs % block_size ≡ 0 → ⊥) → Refuses Refusal·.BufferLength
           refuse_part n =
-              refuse 8 Answer·.BufferLength refl
+              refuse 8 Refusal·.BufferLength refl
               (judge_8 (layout_of t) i bs d right_disk (ne_eqb i 0 some) fresh (part_unpaged bs full n))
 
           module _ (whole : length bs % block_size ≡ 0) where
-            pub refuse-files : most_files ≤ t.count → Refuses Answer·.FilesFull
+            pub refuse-files : most_files ≤ t.count → Refuses Refusal·.FilesFull
             unfolding layout_of
             refuse-files m =
-                refuse 10 Answer·.FilesFull refl
+                refuse 10 Refusal·.FilesFull refl
                 (judge_10 (layout_of t) i bs d right_disk (ne_eqb i 0 some) fresh (whole_paged bs full whole)
                 (le-leb most_files (length (files_of t)) (omega (arith, o.files))))
 
             pub refuse-space : t.count < most_files → (f : ℕ) → IsFree t f → f < page_count bs
-                → Refuses Answer·.NoSpace
+                → Refuses Refusal·.NoSpace
             unfolding layout_of
             refuse-space m f q s =
-                refuse 11 Answer·.NoSpace refl
+                refuse 11 Refusal·.NoSpace refl
                 (judge_11 (layout_of t) i bs d right_disk (ne_eqb i 0 some) fresh (whole_paged bs full whole)
                 (lt-leb most_files (length (files_of t)) (omega (arith, o.files)))
                 (lt-ltb (free_blocks (layout_of t)) (page_count bs) (omega (arith, q.equal))))
@@ -135,14 +134,13 @@ placed_blocks t i bs d d' r p = ap (λ (l : Layout). l.blocks) p.layout
 pub answer-add : (t : Table) (i n : ℕ) (bs d d' : List ℕ) (r : Table) → CanAdd t i n (length d) bs
     → Places t i bs d d' r
     → Makes t.blocks (λ v cat. add_on v (layout_of t) i bs cat d) d'
-    (record { answer = Answer·.Number n; changed = true; table = r })
+    (Ok (record { number = n; table = r }))
 answer-add t i n bs d d' r c p = record {
   answer = λ v cat. ap answered c.pages ∙ sym (ap (λ (o : Outcome). o.reply) (done_is v cat));
   disk = λ v cat. sym (ap (λ (o : Outcome). o.disk) (done_is v cat));
-  kept = λ z. absurd (let y : ◌≡◌ {A = ℕ} 0 1 = cc in omega arith);
-  stored = λ _ v cat. sym (ap (λ (o : Outcome). o.catalogue) (done_is v cat));
-  rules = λ _. p.rules;
-  blocks = λ _. placed_blocks t i bs d d' r p;
+  stored = λ v cat. sym (ap (λ (o : Outcome). o.catalogue) (done_is v cat));
+  rules = p.rules;
+  blocks = placed_blocks t i bs d d' r p;
   sized = p.sized;
 }
   where

@@ -6,6 +6,7 @@ use mathlib.Core.Path.{◌∙◌, ◌≡◌, ap, ap₂, subst, sym}
 use Prim.Native.Nat.{◌*◌, ℕ}
 use native.Mathlib.Omega.{arith}
 use lib.ListN.{length}
+use Rattle.std.specs.Prelude.{Ok}
 use Rattle.calls.proofs.AddJudged.{placed_blocks, placed_is}
 use Rattle.calls.proofs.Removals.{remove_can_take, removed-blocks}
 use Rattle.calls.specs.Adding.{CanAdd, Places}
@@ -20,7 +21,7 @@ use Rattle.layout.specs.Adding.{allocate}
 use Rattle.layout.specs.Layout.{Layout}
 use Rattle.layout.specs.Removing.{copies_of}
 use Rattle.looking.proofs.FreeSum.{opened_sums}
-use Rattle.looking.specs.declared.Answer.TheVariants as Answer·
+use Rattle.answers.specs.declared.Refusal.TheVariants as Refusal·
 use Rattle.manager.proofs.CanReplace.{replace_allowed}
 use Rattle.manager.specs.Changes.{without}
 use Rattle.manager.specs.Conditions.{Outcome, answered, outcome, unless_refused}
@@ -92,13 +93,12 @@ module _ (t : Table) (i id n : ℕ) (bs d : List ℕ) (c : CanExchange t i id n 
               ∙ placed_is s.table id bs d' d'' r p v (encode v (layout_of s.table))
 
       pub exchange_makes : Makes t.blocks (λ v cat. replace_on v (layout_of t) id bs cat d) d''
-          (record { answer = Answer·.Number s.copied; changed = true; table = r })
+          (Ok (record { number = s.copied; table = r }))
       exchange_makes = record {
         answer = λ v cat. ap answered e.count ∙ sym (ap (λ (o : Outcome). o.reply) (outcome_is v cat));
         disk = λ v cat. sym (ap (λ (o : Outcome). o.disk) (outcome_is v cat));
-        kept = λ z. absurd (let y : ◌≡◌ {A = ℕ} 0 1 = cc in omega arith);
-        stored = λ _ v cat. sym (ap (λ (o : Outcome). o.catalogue) (outcome_is v cat));
-        rules = λ _. p.rules;
-        blocks = λ _. placed_blocks s.table id bs d' d'' r p ∙ left_blocks;
+        stored = λ v cat. sym (ap (λ (o : Outcome). o.catalogue) (outcome_is v cat));
+        rules = p.rules;
+        blocks = placed_blocks s.table id bs d' d'' r p ∙ left_blocks;
         sized = p.sized;
       }

@@ -5,11 +5,11 @@ use mathlib.Core.Path.{◌∙◌, ◌≡◌, ap, ap₂, refl, sym}
 use Prim.Native.Nat.{◌*◌, ℕ}
 use native.Mathlib.Omega.{arith}
 use lib.ListN.{length}
+use Rattle.std.specs.Prelude.{Ok, Err}
 use Rattle.calls.proofs.Refusing.{refused_makes}
-use Rattle.calls.specs.Refusing.{refusing}
 use Rattle.looking.proofs.LookChecks.{disk_right, disk_wrong, id_found, id_missing_lem, id-zero}
 use Rattle.looking.proofs.LookedUp.{looked_found}
-use Rattle.looking.specs.declared.Answer.TheVariants as Answer·
+use Rattle.answers.specs.declared.Refusal.TheVariants as Refusal·
 use Rattle.looking.specs.Opened.{Opened}
 use Rattle.calls.specs.Changing.{Makes, remove_on}
 use Rattle.calls.specs.TakingOut.{CanTakeOut, TakesOut, file_at, removal_at}
@@ -31,11 +31,10 @@ use Rattle.table.specs.declared.Table.{Table}
 
 module _ (t : Table) (op : Opened t) (id : ℕ) (d : List ℕ) where
   pub remove_wrong_disk : (length d ≡ block_size * t.blocks → ⊥)
-      → Makes t.blocks (λ v cat. remove_on v (layout_of t) id cat d) d (refusing Answer·.DiskLength t)
+      → Makes t.blocks (λ v cat. remove_on v (layout_of t) id cat d) d (Err Refusal·.DiskLength)
   unfolding layout_of
   remove_wrong_disk ne =
-      refused_makes _ 4 (disk_wrong (layout_of t) d (file_checks id (layout_of t)) ne) Answer·.DiskLength refl d _ t
-      op.sized
+      refused_makes _ 4 (disk_wrong (layout_of t) d (file_checks id (layout_of t)) ne) Refusal·.DiskLength refl d _
 
   module _ (ld : length d ≡ block_size * t.blocks) where
     past_disk : first_refusal (condition 4 (wrong_disk (layout_of t) d) ∷ file_checks id (layout_of t))
@@ -44,15 +43,15 @@ module _ (t : Table) (op : Opened t) (id : ℕ) (d : List ℕ) where
     past_disk = disk_right (layout_of t) d (file_checks id (layout_of t)) ld
 
     pub remove-id-zero : id ≡ 0 → Makes t.blocks (λ v cat. remove_on v (layout_of t) id cat d) d
-        (refusing Answer·.IdZero t)
+        (Err Refusal·.IdZero)
     remove-id-zero e =
-        refused_makes _ 5 (past_disk ∙ id-zero (layout_of t) id [] e) Answer·.IdZero refl d _ t op.sized
+        refused_makes _ 5 (past_disk ∙ id-zero (layout_of t) id [] e) Refusal·.IdZero refl d _
 
     module _ (nz : id ≡ 0 → ⊥) where
       pub remove_missing : find_file id (layout_of t).files ≡ missing
-          → Makes t.blocks (λ v cat. remove_on v (layout_of t) id cat d) d (refusing Answer·.IdMissing t)
+          → Makes t.blocks (λ v cat. remove_on v (layout_of t) id cat d) d (Err Refusal·.IdMissing)
       remove_missing e =
-          refused_makes _ 6 (past_disk ∙ id_missing_lem (layout_of t) id [] nz e) Answer·.IdMissing refl d _ t op.sized
+          refused_makes _ 6 (past_disk ∙ id_missing_lem (layout_of t) id [] nz e) Refusal·.IdMissing refl d _
 
       module _ (i : ℕ) (x : FirstOf t id i) where
         there : find_file id (layout_of t).files ≡ found (file_at t i)
@@ -85,13 +84,12 @@ module _ (t : Table) (op : Opened t) (id : ℕ) (d : List ℕ) where
 
         pub remove_makes : (d' : List ℕ) (s : Settled) → TakesOut t i d d' s
             → Makes t.blocks (λ v cat. remove_on v (layout_of t) id cat d) d'
-            (record { answer = Answer·.Number s.copied; changed = true; table = s.table })
+            (Ok (record { number = s.copied; table = s.table }))
         remove_makes d' s e = record {
           answer = λ v cat. ap answered e.count ∙ sym (ap (λ o. o.reply) (outcome_is v cat));
           disk = λ v cat. e.disk ∙ sym (ap (λ o. o.disk) (outcome_is v cat));
-          kept = λ c. absurd (let z : ◌≡◌ {A = ℕ} 0 1 = cc in omega arith);
-          stored = λ _ v cat. ap (encode v) e.layout ∙ sym (ap (λ o. o.catalogue) (outcome_is v cat));
-          rules = λ _. e.opened.rules;
-          blocks = λ _. ap (λ (l : Layout). l.blocks) e.layout ∙ removed-blocks;
+          stored = λ v cat. ap (encode v) e.layout ∙ sym (ap (λ o. o.catalogue) (outcome_is v cat));
+          rules = e.opened.rules;
+          blocks = ap (λ (l : Layout). l.blocks) e.layout ∙ removed-blocks;
           sized = e.opened.sized;
         }

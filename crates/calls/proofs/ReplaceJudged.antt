@@ -10,16 +10,16 @@ use borrow.Author.Tests.{eq-eqb, le-leb, lt-leb, lt-ltb, ne_eqb}
 use Rattle.blocks.specs.DiskCode.{EntryFits}
 use Rattle.calls.proofs.Refusing.{refused_makes}
 use Rattle.calls.specs.Changing.{Makes, replace_found, replace_on}
-use Rattle.calls.specs.Refusing.{refusing}
 use Rattle.calls.specs.Replacing.{CanCompare, CanExchange}
 use Rattle.calls.specs.TakingOut.{file_at}
 use Rattle.layout.specs.Layout.{File, block_count, file_blocks, find_file, found, free_blocks, missing}
 use Rattle.looking.proofs.LookChecks.{disk_right, disk_wrong, id_found, id_missing_lem, id-zero}
 use Rattle.looking.proofs.LookedUp.{looked_fits, looked_found, looked_low, looked_some}
-use Rattle.looking.specs.Answers.{reply_of}
+use Rattle.answers.specs.Answers.{number_of}
+use Rattle.std.specs.Prelude.{Ok, Err}
 use Rattle.looking.specs.Opened.{Opened}
-use Rattle.looking.specs.declared.Answer.{Answer}
-use Rattle.looking.specs.declared.Answer.TheVariants as Answer·
+use Rattle.answers.specs.declared.Refusal.{Refusal}
+use Rattle.answers.specs.declared.Refusal.TheVariants as Refusal·
 use Rattle.manager.proofs.Judging.{passes, refuses_by}
 use Rattle.manager.specs.Conditions.{Condition, condition, first_refusal, not_above, refusal, refused, replace_checks}
 use Rattle.manager.specs.Conditions.{too_long, unpaged, unranked, wrong_disk}
@@ -47,38 +47,38 @@ module _ (t : Table) (o : Opened t) (i : ℕ) (bs d : List ℕ) where
   abbrev from_8 : List Condition
   from_8 = condition 8 (unpaged bs) ∷ from_12
 
-  abbrev Refuses : Answer → Type 0
-  Refuses a = Makes t.blocks (λ v cat. replace_on v (layout_of t) i bs cat d) d (refusing a t)
+  abbrev Refuses : Refusal → Type 0
+  Refuses a = Makes t.blocks (λ v cat. replace_on v (layout_of t) i bs cat d) d (Err a)
 
-  refuse : (k : ℕ) (a : Answer) → reply_of a ≡ refused k → first_refusal checks ≡ refusal k → Refuses a
+  refuse : (k : ℕ) (a : Refusal) → number_of a ≡ k → first_refusal checks ≡ refusal k → Refuses a
   refuse k a q e =
       refused_makes (first_refusal checks) k e a q d
-      (λ v cat. replace_found v i bs cat d (layout_of t) (find_file i (layout_of t).files)) t o.sized
+      (λ v cat. replace_found v i bs cat d (layout_of t) (find_file i (layout_of t).files))
 
-  pub refuse-disk : (length d ≡ block_size * t.blocks → ⊥) → Refuses Answer·.DiskLength
+  pub refuse-disk : (length d ≡ block_size * t.blocks → ⊥) → Refuses Refusal·.DiskLength
   unfolding layout_of
   refuse-disk n =
-      refuse 4 Answer·.DiskLength refl (disk_wrong (layout_of t) d (replace_checks i bs d (layout_of t)) n)
+      refuse 4 Refusal·.DiskLength refl (disk_wrong (layout_of t) d (replace_checks i bs d (layout_of t)) n)
 
   module _ (right : length d ≡ block_size * t.blocks) where
     past_disk : first_refusal checks ≡ first_refusal (replace_checks i bs d (layout_of t))
     unfolding layout_of
     past_disk = disk_right (layout_of t) d (replace_checks i bs d (layout_of t)) right
 
-    pub refuse-zero : i ≡ 0 → Refuses Answer·.IdZero
-    refuse-zero z = refuse 5 Answer·.IdZero refl (past_disk ∙ id-zero (layout_of t) i from_8 z)
+    pub refuse-zero : i ≡ 0 → Refuses Refusal·.IdZero
+    refuse-zero z = refuse 5 Refusal·.IdZero refl (past_disk ∙ id-zero (layout_of t) i from_8 z)
 
     module _ (some : i ≡ 0 → ⊥) where
-      pub refuse_missing : find_file i (layout_of t).files ≡ missing → Refuses Answer·.IdMissing
-      refuse_missing e = refuse 6 Answer·.IdMissing refl (past_disk ∙ id_missing_lem (layout_of t) i from_8 some e)
+      pub refuse_missing : find_file i (layout_of t).files ≡ missing → Refuses Refusal·.IdMissing
+      refuse_missing e = refuse 6 Refusal·.IdMissing refl (past_disk ∙ id_missing_lem (layout_of t) i from_8 some e)
 
       module _ (f : File) (e : find_file i (layout_of t).files ≡ found f) where
         past_id : first_refusal checks ≡ first_refusal from_8
         past_id = past_disk ∙ id_found (layout_of t) i from_8 some f e
 
-        pub refuse-unpaged : unpaged bs ≡ true → Refuses Answer·.BufferLength
+        pub refuse-unpaged : unpaged bs ≡ true → Refuses Refusal·.BufferLength
         refuse-unpaged u =
-            refuse 8 Answer·.BufferLength refl (past_id ∙ refuses_by (condition 8 (unpaged bs)) from_12 u)
+            refuse 8 Refusal·.BufferLength refl (past_id ∙ refuses_by (condition 8 (unpaged bs)) from_12 u)
 
         past_pages : unpaged bs ≡ false → first_refusal checks ≡ first_refusal from_12
         past_pages u = past_id ∙ passes (condition 8 (unpaged bs)) from_12 u
@@ -86,7 +86,7 @@ module _ (t : Table) (o : Opened t) (i : ℕ) (bs d : List ℕ) where
 -- ---- past the content's length
 
 module _ (t : Table) (i id : ℕ) (bs d : List ℕ) (c : CanCompare t i id bs d) where
-  abbrev RefusesFound : Answer → Type 0
+  abbrev RefusesFound : Refusal → Type 0
   RefusesFound a = Refuses t c.opened id bs d a
 
   there : find_file id (layout_of t).files ≡ found (file_at t i)
@@ -113,9 +113,9 @@ module _ (t : Table) (i id : ℕ) (bs d : List ℕ) (c : CanCompare t i id bs d)
       past_pages t c.opened id bs d c.disk (λ z. omega (arith, c.least)) (file_at t i) there c.paged
 
   module _ (new : ℕ) (is-new : new ≡ first_rank (cut_pages (page_count bs) bs)) where
-    pub refuse_unknown : new ≡ 0 → RefusesFound Answer·.LetterUnknown
+    pub refuse_unknown : new ≡ 0 → RefusesFound Refusal·.LetterUnknown
     refuse_unknown z =
-        refuse t c.opened id bs d 12 Answer·.LetterUnknown refl
+        refuse t c.opened id bs d 12 Refusal·.LetterUnknown refl
         (past_content
         ∙ refuses_by (condition 12 (unranked bs)) (from_13 t c.opened id bs d)
         (eq-eqb (first_rank (cut_pages (page_count bs) bs)) 0 (sym is-new ∙ z)))
@@ -127,9 +127,9 @@ module _ (t : Table) (i id : ℕ) (bs d : List ℕ) (c : CanCompare t i id bs d)
           ∙ passes (condition 12 (unranked bs)) (from_13 t c.opened id bs d)
           (ne_eqb (first_rank (cut_pages (page_count bs) bs)) 0 (λ z. ranked (is-new ∙ z)))
 
-      pub refuse-not_above : new ≤ old → RefusesFound Answer·.LetterNotAbove
+      pub refuse-not_above : new ≤ old → RefusesFound Refusal·.LetterNotAbove
       refuse-not_above le =
-          refuse t c.opened id bs d 13 Answer·.LetterNotAbove refl
+          refuse t c.opened id bs d 13 Refusal·.LetterNotAbove refl
           (past_rank
           ∙ refuses_by (condition 13 (not_above bs d (find_file id (layout_of t).files))) (last t c.opened id bs d)
           (ap (not_above bs d) there
@@ -146,9 +146,9 @@ module _ (t : Table) (i id : ℕ) (bs d : List ℕ) (c : CanCompare t i id bs d)
             ∙ lt-leb (first_rank (cut_pages (page_count bs) bs)) (first_rank (pages_on d (file_at t i).pieces))
             (omega (arith, is-new, is-old)))
 
-        pub refuse-space : f + n < page_count bs → RefusesFound Answer·.NoSpace
+        pub refuse-space : f + n < page_count bs → RefusesFound Refusal·.NoSpace
         refuse-space lt =
-            refuse t c.opened id bs d 11 Answer·.NoSpace refl
+            refuse t c.opened id bs d 11 Refusal·.NoSpace refl
             (past_above
             ∙ refuses_by (condition 11 (too_long bs (layout_of t) (find_file id (layout_of t).files))) []
             (ap (too_long bs (layout_of t)) there

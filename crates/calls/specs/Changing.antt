@@ -1,5 +1,5 @@
 -- What the calls that change a table promise. Definitions only.
-use Rattle.std.specs.Prelude.{◌≡◌, true, false, List, [], ◌∷◌, ℕ, length}
+use Rattle.std.specs.Prelude.{◌≡◌, List, [], ◌∷◌, ℕ, length, Result, Ok, Err}
 use Rattle.section.specs.Limits.{height_count}
 use Rattle.layout.specs.Adding.{allocate}
 use Rattle.layout.specs.Layout.{Found, Layout, find_file, found, missing}
@@ -12,7 +12,8 @@ use Rattle.manager.specs.Conditions.{refused, replace_checks, unless_refused, wr
 use Rattle.manager.specs.Disk.{page_count, run_copies}
 use Rattle.manager.specs.Outcomes.{add_pieces, remove_found}
 use Rattle.table.specs.Tables.{Sized, layout_of}
-use Rattle.looking.specs.Answers.{reply_of}
+use Rattle.answers.specs.Answers.{number_of}
+use Rattle.answers.specs.declared.Refusal.{Refusal}
 use Rattle.calls.specs.declared.Changed.{Changed}
 
 -- ---- the outcomes past the catalogue, for any version and any catalogue bytes
@@ -43,13 +44,21 @@ replace_on v l i bs cat d =
     unless_refused (first_refusal (condition 4 (wrong_disk l d) ∷ replace_checks i bs d l)) cat d []
     (replace_found v i bs cat d l (find_file i l.files))
 
--- r is what the outcome says of the table of b blocks: another one, to be stored, or the same
-pub record Makes (b : ℕ) (o : Version → List ℕ → Outcome) (d' : List ℕ) (r : Changed) : Type 0 where
-  pub answer : (v : Version) (cat : List ℕ) → reply_of r.answer ≡ (o v cat).reply
+-- r is what the outcome says of the table of b blocks: another one, to be stored
+pub record MakesTable (b : ℕ) (o : Version → List ℕ → Outcome) (d' : List ℕ) (r : Changed) : Type 0 where
+  pub answer : (v : Version) (cat : List ℕ) → answered r.number ≡ (o v cat).reply
   pub disk : (v : Version) (cat : List ℕ) → d' ≡ (o v cat).disk
-  pub kept : r.changed ≡ false → (v : Version) (cat : List ℕ) → cat ≡ (o v cat).catalogue
-  pub stored : r.changed ≡ true → (v : Version) (cat : List ℕ)
-      → encode v (layout_of r.table) ≡ (o v cat).catalogue
-  pub rules : r.changed ≡ true → Sound height_count (layout_of r.table)
-  pub blocks : r.changed ≡ true → (layout_of r.table).blocks ≡ b
+  pub stored : (v : Version) (cat : List ℕ) → encode v (layout_of r.table) ≡ (o v cat).catalogue
+  pub rules : Sound height_count (layout_of r.table)
+  pub blocks : (layout_of r.table).blocks ≡ b
   pub sized : Sized r.table
+
+-- the outcome is the refusal a, and the catalogue is as it was
+pub record MakesNone (o : Version → List ℕ → Outcome) (d' : List ℕ) (a : Refusal) : Type 0 where
+  pub answer : (v : Version) (cat : List ℕ) → refused (number_of a) ≡ (o v cat).reply
+  pub disk : (v : Version) (cat : List ℕ) → d' ≡ (o v cat).disk
+  pub kept : (v : Version) (cat : List ℕ) → cat ≡ (o v cat).catalogue
+
+abbrev pub Makes : ℕ → (Version → List ℕ → Outcome) → List ℕ → Result Changed Refusal → Type 0
+Makes b o d' (Ok r) = MakesTable b o d' r
+Makes b o d' (Err a) = MakesNone o d' a

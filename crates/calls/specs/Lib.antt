@@ -1,5 +1,4 @@
 -- Definitions only: what the code of the calls that change a table asks for and promises.
-pub mod Refusing
 pub mod Changing
 pub mod TakingOut
 pub mod Adding

@@ -6,8 +6,9 @@ ghost use Rattle.looking.specs.Opened.{Opened};
 ghost use Rattle.calls.specs.Changing.{Makes, add_on};
 ghost use Rattle.calls.specs.Adding.{CanAdd, Places};
 
-use crate::{Changed, kept};
-use looking::{Answer, free_in};
+use crate::Changed;
+use answers::Refusal;
+use looking::free_in;
 use section::Section;
 use table::{Entry, FileAt, Table};
 
@@ -28,7 +29,7 @@ pub fn place_file(disk: &mut [u8], t: Table, id: u32, n: u32, content: &[u8]) ->
 // An add on a disk as long as its table says, under an id above zero: the other conditions, then the pages and the new
 // table. They stand in a function of their own so that LLVM does not take the last call for a rare one, which would be
 // compiled apart and would copy the table.
-fn add_file(disk: &mut [u8], t: Table, id: u16, content: &[u8]) -> Changed
+fn add_file(disk: &mut [u8], t: Table, id: u16, content: &[u8]) -> Result<Changed, Refusal>
     requires opened { Opened t }
     requires disk_len { (length disk.old ≡ block_size * t.blocks) × (1 ≤ id) }
     ensures { Makes t.blocks (λ v cat. add_on v (layout_of t) id content.now cat disk.old)
@@ -37,42 +38,38 @@ fn add_file(disk: &mut [u8], t: Table, id: u16, content: &[u8]) -> Changed
     let looked = t.look_up(id as u32);
     let file = looked.file;
     if let FileAt::Place(_) = file {
-        return kept(t, Answer::IdThere);
+        return Err(Refusal::IdThere);
     }
     if content.len() == 0 {
-        return kept(t, Answer::BufferLength);
+        return Err(Refusal::BufferLength);
     }
     if content.len() % Section::BLOCK_SIZE != 0 {
-        return kept(t, Answer::BufferLength);
+        return Err(Refusal::BufferLength);
     }
     if t.count >= Section::MOST_FILES {
-        return kept(t, Answer::FilesFull);
+        return Err(Refusal::FilesFull);
     }
     let pages = content.len() / Section::BLOCK_SIZE;
     let free = free_in(t);
     if (free as usize) < pages {
-        return kept(t, Answer::NoSpace);
+        return Err(Refusal::NoSpace);
     }
     let n = pages as u32;
     let table = place_file(disk, t, id as u32, n, content);
-    Changed {
-        answer: Answer::Number(n),
-        changed: true,
-        table,
-    }
+    Ok(Changed { number: n, table })
 }
 
 // An add on a loaded table: the conditions past the catalogue, then the pages and the new table.
-pub fn add_in(disk: &mut [u8], t: Table, id: u16, content: &[u8]) -> Changed
+pub fn add_in(disk: &mut [u8], t: Table, id: u16, content: &[u8]) -> Result<Changed, Refusal>
     requires { Opened t }
     ensures { Makes t.blocks (λ v cat. add_on v (layout_of t) id content.now cat disk.old)
         disk.new result }
 {
     if disk.len() != Section::BLOCK_SIZE * (t.blocks as usize) {
-        return kept(t, Answer::DiskLength);
+        return Err(Refusal::DiskLength);
     }
     if id == 0 {
-        return kept(t, Answer::IdZero);
+        return Err(Refusal::IdZero);
     }
     add_file(disk, t, id, content)
 }

@@ -5,8 +5,8 @@ ghost use Rattle.looking.specs.Opened.{Opened};
 ghost use Rattle.calls.specs.Changing.{Makes, remove_on};
 ghost use Rattle.calls.specs.TakingOut.{CanTakeOut, TakesOut};
 
-use crate::{Changed, kept};
-use looking::Answer;
+use crate::Changed;
+use answers::Refusal;
 use section::Section;
 use settling::{Settled, settle};
 use table::{FileAt, Table};
@@ -21,27 +21,25 @@ pub fn take_out(disk: &mut [u8], t: Table, i: usize) -> Settled
 }
 
 // A removal on a loaded table: the conditions past the catalogue, then the release and the merges.
-pub fn remove_in(disk: &mut [u8], t: Table, id: u16) -> Changed
+pub fn remove_in(disk: &mut [u8], t: Table, id: u16) -> Result<Changed, Refusal>
     requires { Opened t }
     ensures { Makes t.blocks (λ v cat. remove_on v (layout_of t) id cat disk.old)
         disk.new result }
 {
     if disk.len() != Section::BLOCK_SIZE * (t.blocks as usize) {
-        return kept(t, Answer::DiskLength);
+        return Err(Refusal::DiskLength);
     }
     if id == 0 {
-        return kept(t, Answer::IdZero);
+        return Err(Refusal::IdZero);
     }
     let looked = t.look_up(id as u32);
     let file = looked.file;
     let FileAt::Place(i) = file else {
-        return kept(t, Answer::IdMissing);
+        return Err(Refusal::IdMissing);
     };
     let s = take_out(disk, t, i);
-    let table = s.table;
-    Changed {
-        answer: Answer::Number(s.copied),
-        changed: true,
-        table,
-    }
+    Ok(Changed {
+        number: s.copied,
+        table: s.table,
+    })
 }

@@ -3,7 +3,6 @@ use mathlib.Core.Path.{ap}
 use native.Mathlib.Omega.{arith}
 use Rattle.layout.specs.Layout.{is_found}
 use Rattle.looking.proofs.LookedUp.{looked_first, looked_found, looked_fresh, opened_rises}
-use Rattle.calls.proofs.Refusing.{made_as}
 use Rattle.calls.proofs.AddJudged.{answer-add, can_add, refuse-empty, refuse-files, refuse_part, refuse-space}
 use Rattle.calls.proofs.AddJudged.{refuse_there}
 use Rattle.calls.proofs.adding.add_file.Goals as goal
@@ -20,7 +19,6 @@ returns-in-Place c =
     let p = c.look_up-looked in
     let e = c.in-Place.is in
     let x = looked_first c.args.t c.requires.opened c.args.id p.result p.ensures e in
-    made_as c.kept.ensures
     (refuse_there c.args.t c.requires.opened c.args.id c.args.content.now c.args.disk.now c.requires.disk_len.0
     (λ z. omega (arith, c.requires.disk_len.1))
     (ap is_found (looked_found c.args.t c.requires.opened c.args.id _ x)))
@@ -29,7 +27,6 @@ pub returns-then-content-eq0 : goal.returns-then-content-eq0
 returns-then-content-eq0 c =
     let p = c.look_up-looked in
     let e = c.in_default.is in
-    made_as c.kept-then-content-eq0.ensures
     (refuse-empty c.args.t c.requires.opened c.args.id c.args.content.now c.args.disk.now c.requires.disk_len.0
     (λ z. omega (arith, c.requires.disk_len.1))
     (looked_fresh c.args.t c.requires.opened c.args.id p.result p.ensures e)
@@ -39,7 +36,6 @@ pub returns-then-content-ne0 : goal.returns-then-content-ne0
 returns-then-content-ne0 c =
     let p = c.look_up-looked in
     let e = c.in_default.is in
-    made_as c.kept-then-content-ne0.ensures
     (refuse_part c.args.t c.requires.opened c.args.id c.args.content.now c.args.disk.now c.requires.disk_len.0
     (λ z. omega (arith, c.requires.disk_len.1))
     (looked_fresh c.args.t c.requires.opened c.args.id p.result p.ensures e)
@@ -50,7 +46,6 @@ pub returns-then-t-ge-MOST_FILES : goal.returns-then-t-ge-MOST_FILES
 returns-then-t-ge-MOST_FILES c =
     let p = c.look_up-looked in
     let e = c.in_default.is in
-    made_as c.kept-then-t-ge-MOST_FILES.ensures
     (refuse-files c.args.t c.requires.opened c.args.id c.args.content.now c.args.disk.now c.requires.disk_len.0
     (λ z. omega (arith, c.requires.disk_len.1))
     (looked_fresh c.args.t c.requires.opened c.args.id p.result p.ensures e)
@@ -63,7 +58,6 @@ returns-then-free-pages c =
     let p = c.look_up-looked in
     let e = c.in_default.is in
     let n = c.free_in-free in
-    made_as c.kept-then-free-pages.ensures
     (refuse-space c.args.t c.requires.opened c.args.id c.args.content.now c.args.disk.now c.requires.disk_len.0
     (λ z. omega (arith, c.requires.disk_len.1))
     (looked_fresh c.args.t c.requires.opened c.args.id p.result p.ensures e)

@@ -1,18 +1,15 @@
 -- `calls::removing::remove_in` meets its contract: the refusals by their conditions, then the file is taken out.
 -- Assumes nothing.
 use Rattle.looking.proofs.LookedUp.{looked_first, looked_missing, opened_rises}
-use Rattle.calls.proofs.Refusing.{made_as}
 use Rattle.calls.proofs.Removals.{remove_can_take, remove-id-zero, remove_makes, remove_missing, remove_wrong_disk}
 use Rattle.calls.proofs.removing.remove_in.Goals as goal
 
 pub returns-then-disk-t : goal.returns-then-disk-t
 returns-then-disk-t c =
-    made_as c.kept.ensures
     (remove_wrong_disk c.args.t c.requires c.args.id c.args.disk.now (λ e. c.if-disk-t.true e))
 
 pub returns-then-id-eq0 : goal.returns-then-id-eq0
 returns-then-id-eq0 c =
-    made_as c.kept-then-id-eq0.ensures
     (remove-id-zero c.args.t c.requires c.args.id c.args.disk.now c.if-disk-t.false c.if-id-eq0.true)
 
 pub look_up-looked-requires : goal.look_up-looked-requires
@@ -24,7 +21,6 @@ look_up-looked-requires c =
 
 pub returns-in_default : goal.returns-in_default
 returns-in_default c =
-    made_as c.kept-in_default.ensures
     (remove_missing c.args.t c.requires c.args.id c.args.disk.now c.if-disk-t.false
     c.if-id-eq0.false
     (looked_missing c.args.t c.requires c.args.id c.look_up-looked.result c.look_up-looked.ensures

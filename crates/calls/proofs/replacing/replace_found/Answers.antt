@@ -4,7 +4,6 @@ use mathlib.Core.Path.{◌∙◌, ap}
 use native.Mathlib.Omega.{arith}
 use Rattle.quality.specs.Letters.{rank_of}
 use Rattle.calls.proofs.ContentLetter.{letter_in_content, letter_of_content}
-use Rattle.calls.proofs.Refusing.{made_as}
 use Rattle.calls.proofs.ReplaceJudged.{can_exchange, compared_fits, compared_low, compared_some, refuse-not_above}
 use Rattle.calls.proofs.ReplaceJudged.{refuse-space, refuse_unknown}
 use Rattle.calls.proofs.replacing.replace_found.Goals as goal
@@ -17,7 +16,7 @@ pub returns-then-rank-eq0 : goal.returns-then-rank-eq0
 returns-then-rank-eq0 c =
     let k = c.rank-rank in
     let new = k.ensures ∙ ap rank_of (letter_of_content c.args.content.now c.requires.paged) in
-    made_as c.kept.ensures (refuse_unknown _ _ _ _ _ c.requires k.result new c.if-rank-eq0.true)
+    (refuse_unknown _ _ _ _ _ c.requires k.result new c.if-rank-eq0.true)
 
 pub first_letter-old-requires : goal.first_letter-old-requires
 first_letter-old-requires c =
@@ -30,7 +29,6 @@ pub returns-then-rank : goal.returns-then-rank
 returns-then-rank c =
     let new = c.rank-rank.ensures ∙ ap rank_of (letter_of_content c.args.content.now c.requires.paged) in
     let old = c.rank.ensures ∙ ap rank_of c.first_letter-old.ensures in
-    made_as c.kept-then-rank.ensures
     (refuse-not_above _ _ _ _ _ c.requires c.rank-rank.result new c.if-rank-eq0.false
     c.rank.result old (omega (arith, c.if-rank.true)))
 
@@ -46,7 +44,6 @@ pub returns-then-room-pages : goal.returns-then-room-pages
 returns-then-room-pages c =
     let new = c.rank-rank.ensures ∙ ap rank_of (letter_of_content c.args.content.now c.requires.paged) in
     let old = c.rank.ensures ∙ ap rank_of c.first_letter-old.ensures in
-    made_as c.kept-then-room-pages.ensures
     (refuse-space _ _ _ _ _ c.requires c.rank-rank.result new c.if-rank-eq0.false
     c.rank.result old (omega (arith, c.if-rank.false)) c.free_in-free.result c.blocks_of-held.result
     c.free_in-free.ensures.equal c.blocks_of-held.ensures.equal (omega (arith, c.if-room-pages.true)))

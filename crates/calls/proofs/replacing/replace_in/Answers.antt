@@ -3,19 +3,16 @@
 use native.Mathlib.Omega.{arith}
 use Rattle.looking.proofs.LookChecks.{empty-unpaged, part_unpaged, whole_paged}
 use Rattle.looking.proofs.LookedUp.{looked_first, looked_found, looked_missing, opened_rises}
-use Rattle.calls.proofs.Refusing.{made_as}
 use Rattle.calls.proofs.ReplaceJudged.{refuse-disk, refuse_missing, refuse-unpaged, refuse-zero}
 use Rattle.calls.proofs.replacing.replace_in.Goals as goal
 
 pub returns-then-disk-t : goal.returns-then-disk-t
 returns-then-disk-t c =
-    made_as c.kept.ensures
     (refuse-disk c.args.t c.requires c.args.id c.args.content.now c.args.disk.now
     c.if-disk-t.true)
 
 pub returns-then-id-eq0 : goal.returns-then-id-eq0
 returns-then-id-eq0 c =
-    made_as c.kept-then-id-eq0.ensures
     (refuse-zero c.args.t c.requires c.args.id c.args.content.now c.args.disk.now
     c.if-disk-t.false c.if-id-eq0.true)
 
@@ -28,7 +25,6 @@ look_up-looked-requires c =
 
 pub returns-in_default : goal.returns-in_default
 returns-in_default c =
-    made_as c.kept-in_default.ensures
     (refuse_missing c.args.t c.requires c.args.id c.args.content.now c.args.disk.now
     c.if-disk-t.false c.if-id-eq0.false
     (looked_missing c.args.t c.requires c.args.id c.look_up-looked.result c.look_up-looked.ensures
@@ -37,7 +33,6 @@ returns-in_default c =
 pub returns-then-content-eq0 : goal.returns-then-content-eq0
 returns-then-content-eq0 c =
     let x = looked_first c.args.t c.requires c.args.id c.look_up-looked.result c.look_up-looked.ensures c.in-Place.is in
-    made_as c.kept-then-content-eq0.ensures
     (refuse-unpaged c.args.t c.requires c.args.id c.args.content.now c.args.disk.now
     c.if-disk-t.false c.if-id-eq0.false _
     (looked_found c.args.t c.requires c.args.id c.in-Place.i x)
@@ -46,7 +41,6 @@ returns-then-content-eq0 c =
 pub returns-then-content-ne0 : goal.returns-then-content-ne0
 returns-then-content-ne0 c =
     let x = looked_first c.args.t c.requires c.args.id c.look_up-looked.result c.look_up-looked.ensures c.in-Place.is in
-    made_as c.kept-then-content-ne0.ensures
     (refuse-unpaged c.args.t c.requires c.args.id c.args.content.now c.args.disk.now
     c.if-disk-t.false c.if-id-eq0.false _
     (looked_found c.args.t c.requires c.args.id c.in-Place.i x)

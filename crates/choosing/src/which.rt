@@ -1,14 +1,15 @@
 // Which removals let n blocks in: the conditions in order, then the files and their ids in the caller's list.
 ghost use Rattle.std.specs.Prelude.{List, ◌≡◌, ℕ};
 ghost use Rattle.table.specs.Tables.{layout_of};
-ghost use Rattle.looking.specs.Answers.{reply_of};
+ghost use Rattle.answers.specs.Answers.{reply_of};
 ghost use Rattle.looking.specs.Opened.{IsFree, Opened};
 ghost use Rattle.choosing.specs.Choosing.{Chosen, which_on};
 
 use crate::counting::copies_for;
 use crate::listing::write_ids;
 use crate::{Choice, Choices};
-use looking::{Answer, free_in};
+use answers::{Answer, Answered, Refusal};
+use looking::free_in;
 use section::Section;
 use table::Table;
 
@@ -43,18 +44,18 @@ pub fn which_in(t: Table, n: u64, places: &mut [u16]) -> Answer
         → places.new ≡ (which_on (layout_of t) n places.old cat d).output }
 {
     if n == 0 {
-        return Answer::BufferLength;
+        return Err(Refusal::BufferLength);
     }
     if places.len() != Section::MOST_FILES {
-        return Answer::ListLength;
+        return Err(Refusal::ListLength);
     }
     let free = free_in(t);
     if n <= free as u64 {
         let none = Choices::none();
         write_ids(places, none);
-        return Answer::FitsAlready;
+        return Ok(Answered::FitsAlready);
     }
     let all = choices_for(t, n, free);
     write_ids(places, all);
-    Answer::Number(all.count as u32)
+    Ok(Answered::Number(all.count as u32))
 }

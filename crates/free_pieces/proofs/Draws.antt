@@ -1,5 +1,6 @@
 -- Taking a piece at its place, and the pair of the lowest height that has two: what the code's values say of the
 -- definitions. Assumes nothing.
+use Rattle.std.specs.Prelude.{Some}
 use mathlib.Core.Bool.{Bool, false, true}
 use mathlib.Core.List.{List, [], ◌++◌, ◌∷◌}
 use mathlib.Core.Path.{◌∙◌, ◌≡◌, ap, ap₂, refl, sym}
@@ -10,10 +11,8 @@ use lib.Seq.{get_or-take, length-take-le}
 use Rattle.layout.specs.Adding.{Taken, keeping, nothing, take_first, taken}
 use Rattle.layout.specs.Removing.{MergePair, fewer, merge_pair, pair}
 use Rattle.section.specs.declared.Section.{Section}
-use Rattle.piece.specs.Packed.{section_in}
-use Rattle.free_pieces.specs.Free.{free_of, lowest_pair, pair_of, taken_of}
+use Rattle.free_pieces.specs.Free.{lowest_pair, pair_of}
 use Rattle.piece_lists.specs.Places.{first_place, without_at}
-use Rattle.free_pieces.specs.declared.Drawn.{Drawn}
 use Rattle.free_pieces.specs.declared.Pair.{Pair}
 
 -- what is taken stands at the first place that passes the test
@@ -58,28 +57,9 @@ module _ (q : Section → Bool) (items : List Section) (m i : ℕ) (hm : m ≤ l
   pub nothing_is : m ≤ i → nothing ≡ take_first q (take m items)
   nothing_is le = sym (take_none q (take m items) (omega (arith, length-take-le m items hm)))
 
--- ---- what was drawn
+-- ---- the lowest height with two, of k heights from h up
 
-pub drawn_there : (d : Drawn) → d.found ≡ true → taken_of d ≡ taken (section_in d.piece) (free_of d.rest)
-unfolding taken_of
-drawn_there d e = rw e
-
-pub drawn_not : (d : Drawn) → d.found ≡ false → taken_of d ≡ nothing
-unfolding taken_of
-drawn_not d e = rw e
-
--- ---- the pair of a height
-
-pub pair_found : (p : Pair) → p.found ≡ true → pair_of p ≡ pair p.lower p.upper (free_of p.others)
-unfolding pair_of
-pair_found p e = rw e
-
-pair_not : (p : Pair) → p.found ≡ false → pair_of p ≡ fewer
-unfolding pair_of
-pair_not p e = rw e
-
--- the lowest height with two, of k heights from h up
-module _ (k h : ℕ) (free : List Section) (p : Pair) (e : pair_of p ≡ merge_pair h free) where
+module _ (k h : ℕ) (free : List Section) where
   or_above : MergePair → MergePair
   or_above t = elim t as (λ _. MergePair) [ pair l u r ↦ pair l u r | fewer ↦ lowest_pair k (suc h) free ]
 
@@ -87,17 +67,16 @@ module _ (k h : ℕ) (free : List Section) (p : Pair) (e : pair_of p ≡ merge_p
   unfolding lowest_pair or_above
   pair_step = refl
 
-  pub pair_here : (K : ℕ) → K ≡ suc k → p.found ≡ true → pair_of p ≡ lowest_pair K h free
+  pub pair_here : (p : Pair) → pair_of (Some p) ≡ merge_pair h free → (K : ℕ) → K ≡ suc k
+      → pair_of (Some p) ≡ lowest_pair K h free
   unfolding or_above
-  pair_here K q f =
-      pair_found p f
-      ∙ (ap or_above (sym (pair_found p f) ∙ e) ∙ (sym pair_step ∙ ap (λ z. lowest_pair z h free) (sym q)))
+  pair_here p e K q = ap or_above e ∙ sym pair_step ∙ ap (λ z. lowest_pair z h free) (sym q)
 
-  pub pair_on : (K j : ℕ) → K ≡ suc k → j ≡ suc h → p.found ≡ false → lowest_pair k j free ≡ lowest_pair K h free
+  pub pair_on : fewer ≡ merge_pair h free → (K j : ℕ) → K ≡ suc k → j ≡ suc h
+      → lowest_pair k j free ≡ lowest_pair K h free
   unfolding or_above
-  pair_on K j q s f =
-      ap (λ z. lowest_pair k z free) s
-      ∙ (ap or_above (sym (pair_not p f) ∙ e) ∙ (sym pair_step ∙ ap (λ z. lowest_pair z h free) (sym q)))
+  pair_on e K j q s =
+      ap (λ z. lowest_pair k z free) s ∙ ap or_above e ∙ sym pair_step ∙ ap (λ z. lowest_pair z h free) (sym q)
 
 pub pair_end : (k h : ℕ) (free : List Section) → k ≡ 0 → fewer ≡ lowest_pair k h free
 unfolding lowest_pair

@@ -1,5 +1,6 @@
 -- Laws of arrays and of the free pieces, and the proofs of the functions.
 pub mod Draws
+pub mod FoundPieces
 pub mod Fewer
 pub mod PairPlaces
 pub mod BuddyPlaces

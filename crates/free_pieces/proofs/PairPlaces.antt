@@ -1,5 +1,6 @@
 -- Two pieces taken at their places are the pair to merge: where no two are buddies, the lowest of a height and the
 -- lowest of it behind that. Assumes nothing.
+use Rattle.std.specs.Prelude.{Some}
 use mathlib.Core.Bool.{Bool, false, true}
 use mathlib.Core.List.{List, [], ◌∷◌}
 use mathlib.Core.Path.{◌∙◌, ◌≡◌, ap, ap₂, refl, subst, sym}
@@ -17,7 +18,7 @@ use Rattle.layout.specs.Covering.{count_of}
 use Rattle.layout.specs.Layout.{has_height, of_height}
 use Rattle.layout.specs.Removing.{buddy_pair, fewer, lowest_two, merge_pair, pair, second_of, with_lower}
 use Rattle.piece_lists.specs.Places.{first_place, without_at}
-use Rattle.free_pieces.proofs.Draws.{pair_found, take_at, take_none}
+use Rattle.free_pieces.proofs.Draws.{take_at, take_none}
 use Rattle.free_pieces.specs.Free.{free_of, free_places, pair_of}
 use Rattle.free_pieces.specs.Pairs.{PairsAt}
 use Rattle.free_pieces.specs.declared.Free.{Free}
@@ -71,7 +72,7 @@ without-length (suc i) (a ∷ l) p = omega (arith, without-length i l (omega ari
 pub record PairPlaces (h : ℕ) (free : List Section) (low next : ℕ) : Type 0 where
   pub lower : low < length free
   pub upper : next + 1 < length free
-  pub pairs : (n : ℕ) (p : Pair) → PairsAt n free low next p → pair_of p ≡ merge_pair h free
+  pub pairs : (n : ℕ) (p : Pair) → PairsAt n free low next p → pair_of (Some p) ≡ merge_pair h free
 
 pub places_same : {h : ℕ} {free : List Section} {low next i j : ℕ} → PairPlaces h free low next → i ≡ low → j ≡ next
     → PairPlaces h free i j
@@ -80,13 +81,12 @@ places_same {h} {free} {low} {next} {i} {j} p e f =
 
 -- what is taken at two places
 pub pairs_are : (n : ℕ) (free : List Section) (low next : ℕ) (p : Pair) → PairsAt n free low next p
-    → pair_of p
+    → pair_of (Some p)
     ≡ pair (get_or free low (section 0 0)) (get_or (without_at low free) next (section 0 0))
     (without_at next (without_at low free))
 pairs_are n free low next p q =
-    pair_found p q.found
-    ∙ (ap (λ l. pair l p.upper (free_of p.others)) q.lower
-    ∙ ap₂ (λ u r. pair (get_or free low (section 0 0)) u r) q.upper q.others)
+    ap (λ l. pair l p.upper (free_of p.others)) q.lower
+    ∙ ap₂ (λ u r. pair (get_or free low (section 0 0)) u r) q.upper q.others
 
 module _ (h : ℕ) (free : List Section) (none : buddy_pair h free ≡ fewer) (two : 1 < count_of h free) where
   abbrev low : ℕ

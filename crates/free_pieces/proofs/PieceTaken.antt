@@ -1,5 +1,5 @@
 -- Taking a piece and splitting, as the code does them: take or split, then halve. Assumes nothing.
-use mathlib.Core.Bool.{false, true}
+use Rattle.std.specs.Prelude.{Some}
 use mathlib.Core.List.{List}
 use mathlib.Core.Path.{◌∙◌, ◌≡◌, ap, refl, subst, sym}
 use Prim.Native.Nat.{◌+◌, ◌-◌, ◌<◌, ◌^◌, ◌≤◌, suc, zero, ℕ}
@@ -14,13 +14,11 @@ use Rattle.layout.proofs.Splitting.{TakesPiece, TakesPieceOf, at_most_one_small,
 use Rattle.layout.proofs.Taking.{take_piece_highest, take_piece_or_split}
 use Rattle.layout.specs.Adding.{Taken, nothing, or_else, split_at, take_of_height, take_piece, taken}
 use Rattle.layout.specs.Allocations.{Stock}
-use Rattle.layout.specs.Layout.{by_first}
-use Rattle.layout.specs.Lists.{insert_by, sum_of}
+use Rattle.layout.specs.Lists.{sum_of}
 use Rattle.section.specs.Limits.{greatest_disk, greatest_height, height_count}
-use Rattle.section.specs.Sections.{length_of, section}
+use Rattle.section.specs.Sections.{length_of}
 use Rattle.section.specs.declared.Section.{Section}
 use Rattle.piece.specs.Packed.{section_in}
-use Rattle.free_pieces.proofs.Draws.{drawn_not, drawn_there}
 use Rattle.free_pieces.specs.Free.{free_of, taken_of}
 use Rattle.free_pieces.specs.Taking.{Stocked, ToHalve, Yields, split_piece}
 use Rattle.free_pieces.specs.declared.Drawn.{Drawn}
@@ -50,16 +48,13 @@ take_piece-or zero h free =
 take_piece-or (suc k) h free =
     take_piece_or_split k h free ∙ ap (or_else (take_of_height h free)) (sym (split_piece_below k h free))
 
-pub taken_here : (k h : ℕ) (free : List Section) (d : Drawn) → taken_of d ≡ take_of_height h free → d.found ≡ true
-    → taken_of d ≡ take_piece k h free
-taken_here k h free d e f =
-    drawn_there d f
-    ∙ (ap (λ t. or_else t (split_piece k h free)) (sym (drawn_there d f) ∙ e) ∙ sym (take_piece-or k h free))
+pub taken_here : (k h : ℕ) (free : List Section) (d : Drawn) → taken_of (Some d) ≡ take_of_height h free
+    → taken_of (Some d) ≡ take_piece k h free
+taken_here k h free d e = ap (λ t. or_else t (split_piece k h free)) e ∙ sym (take_piece-or k h free)
 
-pub taken_split : (k h : ℕ) (free : List Section) (d : Drawn) (q : Taken) → taken_of d ≡ take_of_height h free
-    → d.found ≡ false → q ≡ split_piece k h free → q ≡ take_piece k h free
-taken_split k h free d q e f s =
-    s ∙ (ap (λ t. or_else t (split_piece k h free)) (sym (drawn_not d f) ∙ e) ∙ sym (take_piece-or k h free))
+pub taken_split : (k h : ℕ) (free : List Section) (q : Taken) → nothing ≡ take_of_height h free
+    → q ≡ split_piece k h free → q ≡ take_piece k h free
+taken_split k h free q e s = s ∙ ap (λ t. or_else t (split_piece k h free)) e ∙ sym (take_piece-or k h free)
 
 -- ---- split, at the greatest height and below
 
@@ -76,13 +71,10 @@ split_on h free l =
     ap (λ j. split_at h (take_piece (greatest_height - (h + 1)) j free)) (add-one h)
     ∙ (sym (split_piece_below (greatest_height - (h + 1)) h free) ∙ ap (λ k. split_piece k h free) (sym z))
 
-module _ (h : ℕ) (free : List Section) (d : Drawn) (l : h < greatest_height)
-    (e : taken_of d ≡ take_piece (greatest_height - (h + 1)) (h + 1) free) where
-  pub split_half : (q : Taken) → q ≡ split_at h (taken_of d) → q ≡ split_piece (greatest_height - h) h free
-  split_half q f = f ∙ (ap (split_at h) e ∙ split_on h free l)
-
-  pub split_none : d.found ≡ false → nothing ≡ split_piece (greatest_height - h) h free
-  split_none f = ap (split_at h) (sym (drawn_not d f) ∙ e) ∙ split_on h free l
+pub split_same : (h : ℕ) (free : List Section) (t q : Taken) → h < greatest_height
+    → t ≡ take_piece (greatest_height - (h + 1)) (h + 1) free → q ≡ split_at h t
+    → q ≡ split_piece (greatest_height - h) h free
+split_same h free t q l e f = f ∙ ap (split_at h) e ∙ split_on h free l
 
 -- ---- what is left
 
@@ -98,35 +90,26 @@ stock_few {l} s =
     omega (arith, at_most_one_ones l s.thin, ones-le height_count (sum_of length_of l) low)
 
 -- what was taken is on the disk, and what is left is stock
-pub took : (k h : ℕ) (free : Free) (d : Drawn) → Stocked free → taken_of d ≡ take_piece k h (free_of free)
-    → d.found ≡ true → TakesPiece greatest_disk h (free_of free) (section_in d.piece) (free_of d.rest)
-took k h free d s e f =
-    subst (TakesPieceOf greatest_disk k h (free_of free)) (sym e ∙ drawn_there d f)
-    (take_piece_is greatest_disk k h (free_of free) (stock_of s))
+pub took : (k h : ℕ) (free : Free) (d : Drawn) → Stocked free → taken_of (Some d) ≡ take_piece k h (free_of free)
+    → TakesPiece greatest_disk h (free_of free) (section_in d.piece) (free_of d.rest)
+took k h free d s e =
+    subst (TakesPieceOf greatest_disk k h (free_of free)) (sym e) (take_piece_is greatest_disk k h (free_of free) (stock_of s))
 
 pub to_halve : (k h : ℕ) (free : Free) (d : Drawn) → h < greatest_height → Stocked free
-    → taken_of d ≡ take_piece k (h + 1) (free_of free) → d.found ≡ true
-    → length (free_of d.rest) ≡ d.rest.count → ToHalve h d
-to_halve k h free d l s e f x =
-    let t = took k (h + 1) free d s e f in
+    → taken_of (Some d) ≡ take_piece k (h + 1) (free_of free) → length (free_of d.rest) ≡ d.rest.count → ToHalve h d
+to_halve k h free d l s e x =
+    let t = took k (h + 1) free d s e in
     let p : length_of (section_in d.piece) ≡ 2 ^ suc h = ap (λ z. 2 ^ z) (t.height ∙ add-one h) in
     record {
       low = omega arith;
-      there = f;
       fits = omega (arith, t.fits.within, p);
       most = omega (arith, stock_few t.stock);
     }
 
-pub halved_is : (h : ℕ) (d : Drawn) → d.found ≡ true
-    → taken (section (section_in d.piece).first h)
-    (insert_by by_first (section ((section_in d.piece).first + 2 ^ h) h) (free_of d.rest))
-    ≡ split_at h (taken_of d)
-halved_is h d e = ap (split_at h) (sym (drawn_there d e))
-
-pub stocked_after : (k h : ℕ) (free : Free) (d : Drawn) → Stocked free → Yields (take_piece k h (free_of free)) d
-    → d.found ≡ true → Stocked d.rest
-stocked_after k h free d s y f =
-    let t = took k h free d s y.meaning f in
+pub stocked_after : (k h : ℕ) (free : Free) (d : Drawn) → Stocked free
+    → Yields (take_piece k h (free_of free)) (Some d) → Stocked d.rest
+stocked_after k h free d s y =
+    let t = took k h free d s y.meaning in
     record {
       disk = t.stock.disk;
       rising = t.stock.rising;

@@ -1,21 +1,20 @@
 -- Allocating, as the code does it: from the greatest height down, with the pieces laid so far. Assumes nothing.
-use mathlib.Core.Bool.{Bool, false, true}
+use Rattle.std.specs.Prelude.{None, Some}
 use mathlib.Core.List.{List, [], ◌++◌, ◌∷◌}
 use mathlib.Core.Path.{◌∙◌, ◌≡◌, ap, ap₂, refl, subst, sym}
 use Prim.Native.Nat.{◌+◌, ◌-◌, ◌≤◌, suc, zero, ℕ}
 use native.Mathlib.Numerals.{add-one}
 use native.Mathlib.Omega.{arith}
-use lib.ListN.{replicate}
+use lib.ListN.{length, length-set, replicate, set}
 use Rattle.piece_lists.specs.Few.{list_of, piece_places}
 use Rattle.layout.specs.Adding.{Allocated, Taken, allocate, allocated, nothing, take_piece, taken, too_few, with_piece}
 use Rattle.layout.specs.Layout.{digit}
 use Rattle.section.specs.Limits.{greatest_height, height_count}
 use Rattle.section.specs.declared.Section.{Section}
 use Rattle.piece.specs.Packed.{no_piece, section_in}
-use Rattle.free_pieces.proofs.Draws.{drawn_not, drawn_there}
-use Rattle.free_pieces.proofs.LaidMore.{Extends}
+use Rattle.free_pieces.proofs.LaidMore.{laid_more}
 use Rattle.free_pieces.proofs.PieceTaken.{stocked_after}
-use Rattle.free_pieces.specs.Allocating.{allocated_of, laid_pieces}
+use Rattle.free_pieces.specs.Allocating.{Allots, laid_pieces}
 use Rattle.free_pieces.specs.Free.{free_of, taken_of}
 use Rattle.free_pieces.specs.Taking.{Stocked, Yields}
 use Rattle.free_pieces.specs.declared.Drawn.{Drawn}
@@ -30,11 +29,7 @@ with_pieces (s ∷ l) p = with_piece s (with_pieces l p)
 
 -- what becomes of p once n's ones below height h are allocated too
 unfoldable pub onward : ℕ → ℕ → Laid → Allocated
-onward n h p =
-    elim p.ok as (λ _. Allocated) [
-      | true ↦ with_pieces (laid_pieces p) (allocate (height_count - h) h n (free_of p.free))
-      | false ↦ too_few
-    ]
+onward n h p = with_pieces (laid_pieces p) (allocate (height_count - h) h n (free_of p.free))
 
 with-last : (l : List Section) (s : Section) (p : Allocated)
     → with_pieces (l ++ (s ∷ [])) p ≡ with_pieces l (with_piece s p)
@@ -53,15 +48,6 @@ with_none [] r = refl
 with_none (a ∷ l) r = ap (with_piece a) (with_none l r)
 
 -- ---- one height
-
-onward_ok : (n h : ℕ) (p : Laid) → p.ok ≡ true
-    → onward n h p ≡ with_pieces (laid_pieces p) (allocate (height_count - h) h n (free_of p.free))
-unfolding onward
-onward_ok n h p e = rw e
-
-onward-not : (n h : ℕ) (p : Laid) → p.ok ≡ false → onward n h p ≡ too_few
-unfolding onward
-onward-not n h p e = rw e
 
 -- the ones of n below height h, once a piece was taken
 after : ℕ → ℕ → Taken → Allocated
@@ -109,72 +95,73 @@ module _ (n h : ℕ) (l : h ≤ greatest_height) (free : List Section) where
   unfolding from
   take-one e = step ∙ ap from e
 
--- nothing is allocated once a piece was not found
-pub onward_failed : (n h : ℕ) (p : Laid) → p.ok ≡ false → allocated_of p ≡ onward n h p
-unfolding allocated_of
-onward_failed n h p e = ap (λ t. elim t as (λ _. Allocated) [
-  | true ↦ allocated (laid_pieces p) (free_of p.free)
-  | false ↦ too_few
-]) e
-    ∙ sym (onward-not n h p e)
-
-pub onward_skip : (n h : ℕ) (p : Laid) → h ≤ greatest_height → p.ok ≡ true → digit h n ≡ 0
-    → onward n h p ≡ onward n (h + 1) p
-onward_skip n h p l e b =
-    onward_ok n h p e
-    ∙ (ap (with_pieces (laid_pieces p)) (sym (skip n h l (free_of p.free) b)) ∙ sym (onward_ok n (h + 1) p e))
-
-pub onward-take : (n h : ℕ) (p r : Laid) (d : Drawn) → h ≤ greatest_height → p.ok ≡ true → digit h n ≡ 1
-    → taken_of d ≡ take_piece (greatest_height - h) h (free_of p.free) → Extends p d r
-    → onward n h r ≡ onward n (h + 1) p
-unfolding after
-onward-take n h p r d l e b m x = go d.found refl
-  where
-    now : onward n (h + 1) p
-        ≡ with_pieces (laid_pieces p) (after n h (take_piece (greatest_height - h) h (free_of p.free)))
-    now = onward_ok n (h + 1) p e ∙ ap (with_pieces (laid_pieces p)) (take-one n h l (free_of p.free) b)
-
-    go : (t : Bool) → d.found ≡ t → onward n h r ≡ onward n (h + 1) p
-    go true f =
-        onward_ok n h r (x.ok ∙ f)
-        ∙ (ap₂ (λ a z. with_pieces a (allocate (height_count - h) h n (free_of z))) (x.list f) (x.left f)
-        ∙ (with-last (laid_pieces p) (section_in d.piece) (allocate (height_count - h) h n (free_of d.rest))
-        ∙ (ap (λ z. with_pieces (laid_pieces p) (after n h z)) (sym (drawn_there d f) ∙ m) ∙ sym now)))
-    go false f =
-        onward-not n h r (x.ok ∙ f)
-        ∙ (sym (with_too_few (laid_pieces p))
-        ∙ (ap (λ z. with_pieces (laid_pieces p) (after n h z)) (sym (drawn_not d f) ∙ m) ∙ sym now))
-
-pub stocked_with : (h : ℕ) (p r : Laid) (d : Drawn) → Stocked p.free
-    → Yields (take_piece (greatest_height - h) h (free_of p.free)) d → Extends p d r → Stocked r.free
-stocked_with h p r d s m x = go d.found refl
-  where
-    go : (t : Bool) → d.found ≡ t → Stocked r.free
-    go true f = subst Stocked (sym (x.left f)) (stocked_after (greatest_height - h) h p.free d s m f)
-    go false f = subst Stocked (sym (x.same f)) s
+-- with what is taken, or nothing
+onward-taken : (n h : ℕ) (p : Laid) (t : Taken) → h ≤ greatest_height → digit h n ≡ 1
+    → t ≡ take_piece (greatest_height - h) h (free_of p.free)
+    → with_pieces (laid_pieces p) (after n h t) ≡ onward n (h + 1) p
+unfolding onward
+onward-taken n h p t l b m =
+    ap (λ z. with_pieces (laid_pieces p) (after n h z)) m
+    ∙ ap (with_pieces (laid_pieces p)) (sym (take-one n h l (free_of p.free) b))
 
 -- ---- from the first height to the last
 
-pub onward-end : (n h : ℕ) (p : Laid) → h ≡ 0 → allocated_of p ≡ onward n h p
-unfolding allocated_of onward allocate
-onward-end n h p e = go p.ok
-  where
-    at_0 : allocate (height_count - h) h n (free_of p.free) ≡ allocated [] (free_of p.free)
-    at_0 = ap (λ z. allocate (height_count - h) z n (free_of p.free)) e
+-- p is laid from the free pieces f for n's ones from height h up, and there is room for those below
+pub record Laying (n h : ℕ) (f : Free) (p : Laid) : Type 0 where
+  pub room : p.pieces.count + h ≤ piece_places
+  pub places : length p.pieces.items ≡ piece_places
+  pub stocked : Stocked p.free
+  pub same : onward n h p ≡ allocate 0 height_count n (free_of f)
 
-    go : (t : Bool)
-        → ◌≡◌ {A = Allocated}
-        (elim t as (λ _. Allocated) [ true ↦ allocated (laid_pieces p) (free_of p.free) | false ↦ too_few ])
-        (elim t as (λ _. Allocated) [
-          | true ↦ with_pieces (laid_pieces p) (allocate (height_count - h) h n (free_of p.free))
-          | false ↦ too_few
-        ])
-    go true = sym (ap (with_pieces (laid_pieces p)) at_0 ∙ with_none (laid_pieces p) (free_of p.free))
-    go false = refl
+pub laying_at : {n h k : ℕ} {f : Free} {p : Laid} → Laying n h f p → k ≡ h → Laying n k f p
+laying_at {n} {f = f} {p = p} a e = subst (λ i. Laying n i f p) (sym e) a
 
-pub onward_start : (n : ℕ) (f : Free)
-    → onward n height_count
-    (record { ok = true; pieces = record { count = 0; items = replicate piece_places no_piece }; free = f })
-    ≡ allocate 0 height_count n (free_of f)
+pub laying_start : (n : ℕ) (f : Free) → Stocked f
+    → Laying n height_count f (record { pieces = record { count = 0; items = replicate piece_places no_piece }; free = f })
 unfolding onward with_pieces list_of
-onward_start n f = refl
+laying_start n f s = record { room = omega arith; places = refl; stocked = s; same = refl }
+
+module _ (n h : ℕ) (f : Free) (p : Laid) (a : Laying n (h + 1) f p) where
+  low : h ≤ greatest_height
+  low = omega (arith, a.room)
+
+  pub laying_skip : digit h n ≡ 0 → Laying n h f p
+  unfolding onward
+  laying_skip b = record {
+    room = omega (arith, a.room);
+    places = a.places;
+    stocked = a.stocked;
+    same = ap (with_pieces (laid_pieces p)) (sym (skip n h low (free_of p.free) b)) ∙ a.same;
+  }
+
+  pub laying_more : (d : Drawn) → digit h n ≡ 1 → Yields (take_piece (greatest_height - h) h (free_of p.free)) (Some d)
+      → Laying n h f (record {
+        pieces = record { count = p.pieces.count + 1; items = set p.pieces.items p.pieces.count d.piece };
+        free = d.rest;
+      })
+  unfolding after onward
+  laying_more d b y = record {
+    room = omega (arith, a.room);
+    places = length-set p.pieces.items p.pieces.count d.piece ∙ a.places;
+    stocked = stocked_after (greatest_height - h) h p.free d a.stocked y;
+    same =
+        ap (λ l. with_pieces l (allocate (height_count - h) h n (free_of d.rest)))
+        (laid_more p.pieces d.piece (omega (arith, a.room, a.places)))
+        ∙ with-last (laid_pieces p) (section_in d.piece) (allocate (height_count - h) h n (free_of d.rest))
+        ∙ onward-taken n h p (taken_of (Some d)) low b y.meaning
+        ∙ a.same;
+  }
+
+  -- nothing is allocated once a piece was not found
+  pub laying_failed : digit h n ≡ 1 → Yields (take_piece (greatest_height - h) h (free_of p.free)) None
+      → too_few ≡ allocate 0 height_count n (free_of f)
+  unfolding after
+  laying_failed b y = sym (with_too_few (laid_pieces p)) ∙ onward-taken n h p nothing low b y.meaning ∙ a.same
+
+pub laying_end : (n : ℕ) (f : Free) (p : Laid) → Laying n 0 f p → Allots (allocate 0 height_count n (free_of f)) (Some p)
+unfolding onward allocate
+laying_end n f p a = record {
+  meaning = sym (with_none (laid_pieces p) (free_of p.free)) ∙ a.same;
+  count = omega (arith, a.room);
+  stocked = a.stocked;
+}

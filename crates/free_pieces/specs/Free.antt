@@ -1,5 +1,5 @@
 -- The free pieces as a list, and what the functions on them promise. Definitions only.
-use Rattle.std.specs.Prelude.{◌≡◌, true, false, List, ℕ, zero, suc, ◌+◌, ◌*◌, ◌≤◌, length, take}
+use Rattle.std.specs.Prelude.{◌≡◌, IfSome, List, None, Option, Some, ℕ, zero, suc, ◌+◌, ◌*◌, ◌≤◌, length, take}
 use Rattle.section.specs.declared.Section.{Section}
 use Rattle.piece.specs.Packed.{section_in, seen}
 use Rattle.layout.specs.Adding.{Taken, taken, nothing}
@@ -24,25 +24,27 @@ pub record Lists (n : ℕ) (l : List Section) (r : Free) : Type 0 where
   pub exact : length l ≡ n
 
 -- what was taken, if a piece was found
-unfoldable pub taken_of : Drawn → Taken
-taken_of d = elim d.found as (λ _. Taken) [ true ↦ taken (section_in d.piece) (free_of d.rest) | false ↦ nothing ]
+abbrev pub taken_of : Option Drawn → Taken
+taken_of (Some d) = taken (section_in d.piece) (free_of d.rest)
+taken_of None = nothing
 
 -- r is what the definition takes from n pieces
-pub record Draws (n : ℕ) (t : Taken) (r : Drawn) : Type 0 where
+pub record Draws (n : ℕ) (t : Taken) (r : Option Drawn) : Type 0 where
   pub meaning : taken_of r ≡ t
-  pub most : r.rest.count ≤ n
-  pub exact : length (free_of r.rest) ≡ r.rest.count
-  pub less : r.found ≡ true → r.rest.count + 1 ≡ n
+  pub most : IfSome r (λ d. d.rest.count ≤ n)
+  pub exact : IfSome r (λ d. length (free_of d.rest) ≡ d.rest.count)
+  pub less : IfSome r (λ d. d.rest.count + 1 ≡ n)
 
-unfoldable pub pair_of : Pair → MergePair
-pair_of p =
-    elim p.found as (λ _. MergePair) [ true ↦ pair p.lower p.upper (free_of p.others) | false ↦ fewer ]
+-- the pair, if a height has two
+abbrev pub pair_of : Option Pair → MergePair
+pair_of (Some p) = pair p.lower p.upper (free_of p.others)
+pair_of None = fewer
 
 -- r is the pair that the definition takes from n pieces
-pub record Pairs (n : ℕ) (t : MergePair) (r : Pair) : Type 0 where
+pub record Pairs (n : ℕ) (t : MergePair) (r : Option Pair) : Type 0 where
   pub meaning : pair_of r ≡ t
-  pub exact : length (free_of r.others) ≡ r.others.count
-  pub less : r.found ≡ true → r.others.count + 2 ≡ n
+  pub exact : IfSome r (λ p. length (free_of p.others) ≡ p.others.count)
+  pub less : IfSome r (λ p. p.others.count + 2 ≡ n)
 
 -- the pair of the lowest of the k heights from h up that has two
 unfoldable pub lowest_pair : ℕ → ℕ → List Section → MergePair

@@ -1,5 +1,5 @@
 -- How the two free pieces to merge are found: their height, and what is taken at two places. Definitions only.
-use Rattle.std.specs.Prelude.{◌≡◌, true, List, ℕ, ◌+◌, ◌-◌, ◌<◌, ◌≤◌, get_or, length}
+use Rattle.std.specs.Prelude.{◌≡◌, List, ℕ, ◌+◌, ◌-◌, ◌<◌, ◌≤◌, get_or, length}
 use Rattle.section.specs.declared.Section.{Section}
 use Rattle.section.specs.Limits.{height_count}
 use Rattle.section.specs.Sections.{section}
@@ -17,7 +17,6 @@ pub record HeightDue (free : List Section) (h : ℕ) : Type 0 where
 
 -- r has the piece at place low of n free pieces, the one at place next of the others, and those that are left
 pub record PairsAt (n : ℕ) (free : List Section) (low next : ℕ) (r : Pair) : Type 0 where
-  pub found : r.found ≡ true
   pub lower : r.lower ≡ get_or free low (section 0 0)
   pub upper : r.upper ≡ get_or (without_at low free) next (section 0 0)
   pub others : free_of r.others ≡ without_at next (without_at low free)

@@ -1,5 +1,5 @@
 -- Free pieces from which pieces are taken, and what taking and splitting promise. Definitions only.
-use Rattle.std.specs.Prelude.{true, List, ◌≡◌, ◌+◌, ◌<◌, ◌^◌, ◌≤◌, suc, zero, ℕ, length}
+use Rattle.std.specs.Prelude.{IfSome, List, Option, Some, ◌≡◌, ◌+◌, ◌<◌, ◌^◌, ◌≤◌, suc, zero, ℕ, length}
 use Rattle.layout.specs.Adding.{Taken, nothing, split_at, take_piece}
 use Rattle.layout.specs.Layout.{OnDisk, of_height}
 use Rattle.layout.specs.Lists.{Each, Pairwise, sum_of}
@@ -19,10 +19,10 @@ pub record Stocked (f : Free) : Type 0 where
   pub exact : length (free_of f) ≡ f.count
 
 -- r is what the definition takes
-pub record Yields (t : Taken) (r : Drawn) : Type 0 where
+pub record Yields (t : Taken) (r : Option Drawn) : Type 0 where
   pub meaning : taken_of r ≡ t
-  pub most : r.rest.count ≤ free_places
-  pub exact : length (free_of r.rest) ≡ r.rest.count
+  pub most : IfSome r (λ d. d.rest.count ≤ free_places)
+  pub exact : IfSome r (λ d. length (free_of d.rest) ≡ d.rest.count)
 
 -- a piece of height h split from one taken a height up; k heights are above h
 unfoldable pub split_piece : ℕ → ℕ → List Section → Taken
@@ -32,12 +32,11 @@ split_piece (suc k) h free = split_at h (take_piece k (suc h) free)
 -- what was drawn can be split into halves of height h
 pub record ToHalve (h : ℕ) (d : Drawn) : Type 0 where
   pub low : h ≤ greatest_height
-  pub there : d.found ≡ true
   pub fits : (section_in d.piece).first + 2 ^ h ≤ greatest_disk
   pub most : d.rest.count < free_places
 
 -- r is d with its section split
 pub record Halves (h : ℕ) (d r : Drawn) : Type 0 where
-  pub meaning : taken_of r ≡ split_at h (taken_of d)
+  pub meaning : taken_of (Some r) ≡ split_at h (taken_of (Some d))
   pub most : r.rest.count ≤ free_places
   pub exact : length (free_of r.rest) ≡ r.rest.count

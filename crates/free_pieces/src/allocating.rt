@@ -12,39 +12,23 @@ use piece_lists::Pieces;
 use section::Height;
 
 // A piece for each 1 of `n`, from the highest down.
-pub fn allocate(free: Free, n: u32) -> Laid
+pub fn allocate(free: Free, n: u32) -> Option<Laid>
     requires { Stocked free }
     ensures { Allots (allocate 0 height_count n (free_of free)) result }
 {
     let none = Piece { word: 0 };
-    let mut list = Pieces {
+    let mut pieces = Pieces {
         count: 0,
         items: [none; Pieces::PLACES],
     };
     let mut left = free;
-    let mut h: u32 = Height::GREATEST + 1;
-    while 0 < h {
-        h -= 1;
-        let height = Height { value: h };
-        if n / height.length() % 2 == 1 {
-            let d = take_piece(left, h);
-            if !d.found {
-                return Laid {
-                    ok: false,
-                    pieces: list,
-                    free: left,
-                };
-            }
-            let at = list.count;
-            let piece = d.piece;
-            list.items[at] = piece;
-            list.count = at + 1;
-            left = d.rest;
+    for h in (0..=Height::GREATEST).rev() {
+        if n / (Height { value: h }).length() % 2 == 1 {
+            let drawn = take_piece(left, h)?;
+            pieces.items[pieces.count] = drawn.piece;
+            pieces.count += 1;
+            left = drawn.rest;
         }
     }
-    Laid {
-        ok: true,
-        pieces: list,
-        free: left,
-    }
+    Some(Laid { pieces, free: left })
 }

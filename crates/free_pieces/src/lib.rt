@@ -30,18 +30,16 @@ impl Free {
     pub const PLACES: usize = 2 * Pieces::PLACES;
 }
 
-// A piece that was taken and the pieces that are left, if one was found.
+// A piece that was taken and the pieces that are left.
 #[derive(Clone, Copy)]
 pub struct Drawn {
-    pub found: bool,
     pub piece: Piece,
     pub rest: Free,
 }
 
-// The two free sections to merge and the other free pieces, if a height has two.
+// The two free sections to merge, of a height that has two, and the other free pieces.
 #[derive(Clone, Copy)]
 pub struct Pair {
-    pub found: bool,
     pub lower: Section,
     pub upper: Section,
     pub others: Free,
@@ -54,10 +52,9 @@ pub struct Gap {
     pub past: u32,
 }
 
-// The pieces of a new file in page order and the free pieces that are left, if there were enough.
+// The pieces of a new file in page order and the free pieces that are left.
 #[derive(Clone, Copy)]
 pub struct Laid {
-    pub ok: bool,
     pub pieces: Pieces,
     pub free: Free,
 }

@@ -9,6 +9,7 @@ ghost use Rattle.free_pieces.specs.Free.{free_places, free_of, Pairs, lowest_pai
 ghost use Rattle.free_pieces.specs.Pairs.{HeightDue, PairsAt};
 
 use crate::{Free, Pair};
+use piece_lists::remove_at;
 use section::{Height, Section};
 
 // Whether `l` has height `h`, and `u` is its buddy above it.
@@ -103,52 +104,31 @@ impl Free {
         requires next_bound { next + 1 < self.count }
         ensures { PairsAt self.count (free_of self) low next result }
     {
-        let m = self.count;
+        let count = self.count;
         let mut items = self.items;
-        let l = items[low];
-        let mut i = low + 1;
-        'first: while i < m {
-            let x = items[i];
-            items[i - 1] = x;
-            i += 1;
-        }
-        let u = items[next];
-        let k = m - 1;
-        let mut j = next + 1;
-        'second: while j < k {
-            let x = items[j];
-            items[j - 1] = x;
-            j += 1;
-        }
+        let lower = items[low].section();
+        remove_at(&mut items, count, low);
+        let upper = items[next].section();
+        remove_at(&mut items, count - 1, next);
         Pair {
-            found: true,
-            lower: l.section(),
-            upper: u.section(),
+            lower,
+            upper,
             others: Free {
-                count: k - 1,
+                count: count - 2,
                 items,
             },
         }
     }
 
     // The pair to merge at the lowest height that has two, and the others.
-    pub fn lowest_pair(self) -> Pair
+    pub fn lowest_pair(self) -> Option<Pair>
         requires count_le_free_places { self.count ≤ free_places }
         requires in_order { InOrder (free_of self) }
         ensures { Pairs self.count (lowest_pair height_count 0 (free_of self)) result }
     {
         let h = self.height_due();
         if Height::GREATEST < h {
-            let none = Section {
-                first: 0,
-                height: Height { value: 0 },
-            };
-            return Pair {
-                found: false,
-                lower: none,
-                upper: none,
-                others: self,
-            };
+            return None;
         }
         let mut low = self.place_of_buddies(h);
         let mut next = low;
@@ -156,6 +136,6 @@ impl Free {
             low = self.place_from(h, 0);
             next = self.place_from(h, low + 1) - 1;
         }
-        self.pair_at(low, next)
+        Some(self.pair_at(low, next))
     }
 }

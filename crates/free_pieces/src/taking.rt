@@ -14,24 +14,16 @@ fn halve(d: Drawn, h: u32) -> Drawn
     requires { ToHalve h d }
     ensures { Halves h d result }
 {
-    let piece = d.piece;
-    let s = piece.section();
+    let first = d.piece.first();
     let height = Height { value: h };
-    let n = height.length();
-    let lower = Piece::of(Section {
-        first: s.first,
+    let lower = Piece::of(Section { first, height });
+    let upper = Piece::of(Section {
+        first: first + height.length(),
         height,
     });
-    let upper = Section {
-        first: s.first + n,
-        height,
-    };
-    let others = d.rest;
-    let rest = others.with(Piece::of(upper));
     Drawn {
-        found: true,
         piece: lower,
-        rest,
+        rest: d.rest.with(upper),
     }
 }
 
@@ -39,38 +31,25 @@ fn halve(d: Drawn, h: u32) -> Drawn
 
 // A piece of height `h`: the lowest that is free, or half of one taken a height up.
 #[cycle(split_piece_take_piece)]
-pub fn take_piece(free: Free, h: u32) -> Drawn
+pub fn take_piece(free: Free, h: u32) -> Option<Drawn>
     requires { (h ≤ greatest_height) × Stocked free }
     ensures { Yields (take_piece (greatest_height - h) h (free_of free)) result }
 {
-    let d = free.take_of_height(h);
-    if d.found {
-        return d;
+    if let Some(drawn) = free.take_of_height(h) {
+        return Some(drawn);
     }
     split_piece(free, h)
 }
 
 // Half of a piece taken a height up.
 #[cycle(split_piece_take_piece)]
-fn split_piece(free: Free, h: u32) -> Drawn
+fn split_piece(free: Free, h: u32) -> Option<Drawn>
     requires { (h ≤ greatest_height) × Stocked free }
     ensures { Yields (split_piece (greatest_height - h) h (free_of free)) result }
 {
-    let none = Piece { word: 0 };
     if h == Height::GREATEST {
-        return Drawn {
-            found: false,
-            piece: none,
-            rest: free,
-        };
+        return None;
     }
-    let d = take_piece(free, h + 1);
-    if d.found {
-        return halve(d, h);
-    }
-    Drawn {
-        found: false,
-        piece: none,
-        rest: free,
-    }
+    let drawn = take_piece(free, h + 1)?;
+    Some(halve(drawn, h))
 }

@@ -1,5 +1,5 @@
 -- The next merge of a layout by the pair that `lowest_pair` answers. Assumes nothing.
-use mathlib.Core.Bool.{false, true}
+use Rattle.std.specs.Prelude.{None, Some}
 use mathlib.Core.List.{List}
 use mathlib.Core.Path.{◌∙◌, ◌≡◌, ap, refl, subst, sym}
 use Prim.Native.Nat.{◌+◌, ◌<◌, ◌≤◌, suc, zero, ℕ}
@@ -11,7 +11,7 @@ use Rattle.layout.proofs.MergePairs.{merge_pair_is, MergeableOf}
 use Rattle.layout.specs.Layout.{Layout}
 use Rattle.layout.specs.Removing.{MergePair, Next, due, fewer, merge, merge_pair, next_merge, pair, settled}
 use Rattle.section.specs.declared.Section.{Section}
-use Rattle.free_pieces.specs.Free.{Pairs, free_of, lowest_pair, pair_of}
+use Rattle.free_pieces.specs.Free.{Pairs, free_of, lowest_pair}
 use Rattle.free_pieces.specs.declared.Pair.{Pair}
 
 -- the merge of a pair, if there is one
@@ -31,22 +31,13 @@ next_is (suc k) h w = go (merge_pair h w.free) (next_is k (suc h) w)
     go (pair l u others) e = refl
     go fewer e = e
 
-module _ (n : ℕ) (w : Layout) (p : Pair) (ps : Pairs n (lowest_pair height_count 0 w.free) p) where
-  pub pair_found : p.found ≡ true
-      → lowest_pair height_count 0 w.free ≡ pair p.lower p.upper (free_of p.others)
-  unfolding pair_of
-  pair_found f = sym ps.meaning ∙ rw (f, pair_of)
+pub merge_due : (n : ℕ) (w : Layout) (p : Pair) → Pairs n (lowest_pair height_count 0 w.free) (Some p)
+    → next_merge height_count 0 w ≡ due (merge p.lower p.upper (free_of p.others) w)
+merge_due n w p ps = next_is height_count 0 w ∙ ap (next_of w) (sym ps.meaning)
 
-  pub merge_due : p.found ≡ true
-      → next_merge height_count 0 w ≡ due (merge p.lower p.upper (free_of p.others) w)
-  merge_due f = next_is height_count 0 w ∙ ap (next_of w) (pair_found f)
-
-  pair_not : p.found ≡ false → lowest_pair height_count 0 w.free ≡ fewer
-  unfolding pair_of
-  pair_not f = sym ps.meaning ∙ rw (f, pair_of)
-
-  pub merge_settled : p.found ≡ false → next_merge height_count 0 w ≡ settled
-  merge_settled f = next_is height_count 0 w ∙ ap (next_of w) (pair_not f)
+pub merge_settled : (n : ℕ) (w : Layout) → Pairs n (lowest_pair height_count 0 w.free) None
+    → next_merge height_count 0 w ≡ settled
+merge_settled n w ps = next_is height_count 0 w ∙ ap (next_of w) (sym ps.meaning)
 
 -- the two that are due, of k heights from h up
 pub record Due (k h : ℕ) (free : List Section) (l u : Section) (r : List Section) : Type 0 where

@@ -1,5 +1,5 @@
 -- In a whole layout on a disk of at most the greatest C all that a merge asks for is there. Assumes nothing.
-use mathlib.Core.Bool.{true}
+use Rattle.std.specs.Prelude.{Some}
 use mathlib.Core.List.{List, [], ◌∷◌}
 use mathlib.Core.Path.{◌≡◌, subst, sym}
 use Prim.Native.Nat.{◌≤◌, ℕ}
@@ -24,7 +24,7 @@ use Rattle.free_pieces.proofs.HeldGaps.{held_between, others_in_order}
 use Rattle.free_pieces.specs.Free.{Pairs, free_of, free_places, lowest_pair}
 use Rattle.free_pieces.specs.Gaps.{PairFits, free_copies}
 use Rattle.free_pieces.specs.declared.Pair.{Pair}
-use Rattle.table.proofs.NextPair.{DueOf, due_is, pair_found}
+use Rattle.table.proofs.NextPair.{DueOf, due_is}
 use Rattle.table.specs.Merges.{Ready}
 use Rattle.table.specs.Moves.{CanMove}
 use Rattle.table.specs.Tables.{Sized, file_of, files_of, layout_of}
@@ -71,11 +71,11 @@ pair_fits c w l u r wh p =
 
 -- of the two that are due among n free pieces
 module _ (c : ℕ) (top : c ≤ greatest_disk) (w : Layout) (wh : Whole c w) (n : ℕ) (few : n ≤ free_places) (p : Pair)
-    (ps : Pairs n (lowest_pair height_count 0 w.free) p) (f : p.found ≡ true) where
+    (ps : Pairs n (lowest_pair height_count 0 w.free) (Some p)) where
   pub due_fits : Fits c w p.lower p.upper (free_of p.others)
   due_fits =
       pair_fits c w p.lower p.upper (free_of p.others) wh
-      (subst (DueOf height_count 0 w.free) (pair_found n w p ps f)
+      (subst (DueOf height_count 0 w.free) (sym ps.meaning)
       (due_is height_count 0 w.free wh.rising)).mergeable
 
   -- what moving the others asks for
@@ -91,7 +91,7 @@ module _ (c : ℕ) (top : c ≤ greatest_disk) (w : Layout) (wh : Whole c w) (n 
   merge_countable = record {
     lower = served c top p.lower due_fits.lower;
     buddy = merge_movable.from;
-    few = omega (arith, ps.less f, few);
+    few = omega (arith, ps.less, few);
     exact = ps.exact;
     others = merge_movable.pieces;
     order = due_fits.order;
@@ -99,13 +99,13 @@ module _ (c : ℕ) (top : c ≤ greatest_disk) (w : Layout) (wh : Whole c w) (n 
 
 -- what merging them in a table asks for
 pub merge_ready : (c : ℕ) → c ≤ greatest_disk → (t : Table) → Whole c (layout_of t) → Sized t → (p : Pair)
-    → Pairs t.free.count (lowest_pair height_count 0 (layout_of t).free) p → p.found ≡ true → Ready t p
+    → Pairs t.free.count (lowest_pair height_count 0 (layout_of t).free) (Some p) → Ready t p
 unfolding layout_of files_of
-merge_ready c top t wh sized p ps f =
-    let m = merge_movable c top (layout_of t) wh t.free.count sized.free p ps f in
+merge_ready c top t wh sized p ps =
+    let m = merge_movable c top (layout_of t) wh t.free.count sized.free p ps in
     record {
       sized = sized;
-      lower = (merge_countable c top (layout_of t) wh t.free.count sized.free p ps f).lower;
+      lower = (merge_countable c top (layout_of t) wh t.free.count sized.free p ps).lower;
       upper = m.to;
       buddy = m.from;
       files =
@@ -113,5 +113,5 @@ merge_ready c top t wh sized p ps f =
           (each_unmap file_of (take t.count t.files)
           (each_file (files_of t) (each_left (file_pieces (files_of t)) (free_of t.free) wh.disk)));
       others = m.pieces;
-      few = omega (arith, ps.less f, sized.free);
+      few = omega (arith, ps.less, sized.free);
     }

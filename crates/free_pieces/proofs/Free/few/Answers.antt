@@ -1,6 +1,5 @@
 -- `Free::few` meets its contract: after `j` turns the first `j` places hold the first `j` pieces. Assumes nothing.
 use mathlib.Core.Path.{◌≡◌, refl}
-use Prim.Native.Nat.{◌-◌}
 use native.Mathlib.Omega.{arith}
 use lib.ListN.{length-set}
 use lib.Seq.{length-take-le}

@@ -1,7 +1,6 @@
 -- `Free::height_due` finds the lowest height that has two pieces. The outer loop's invariant: the pair of the heights
 -- from `h` up is that of all heights. The inner loop counts the pieces of height `h`: after `j` turns those among the
 -- first `j`. Assumes nothing.
-use mathlib.Core.Bool.{false}
 use mathlib.Core.Path.{◌∙◌, ◌≡◌, ap, refl, sym}
 use Prim.Native.Nat.{◌+◌, ◌-◌, ◌≤◌}
 use native.Mathlib.Omega.{arith}
@@ -15,7 +14,7 @@ use Rattle.piece.proofs.Seen.{seen_get, seen-length}
 use Rattle.piece_lists.proofs.Arrays.{length_of_mapped}
 use Rattle.free_pieces.proofs.Draws.{pair_on}
 use Rattle.free_pieces.proofs.Fewer.{count_other, count_same, few_pair}
-use Rattle.free_pieces.specs.Free.{free_of, lowest_pair, pair_of, free_places}
+use Rattle.free_pieces.specs.Free.{free_of, lowest_pair, free_places}
 use Rattle.free_pieces.proofs.Free.height_due.Goals as goal
 
 pub heights-init : goal.heights-init
@@ -63,19 +62,18 @@ returns-then-n-gt1 c =
     }
 
 pub heights-preserved : goal.heights-preserved
-unfolding pair_of free_of
+unfolding free_of
 heights-preserved c =
     let self = c.args.self in
     let free = free_of self in
     let l = c.heights in
     let h = l.h in
     let k = c.pieces in
-    let s = section 0 0 in
     let all : k.j ≡ self.count = omega (arith, k.invariant.3, c.pieces-test.false) in
     let count : k.n ≡ count_of h free = k.invariant.5 ∙ ap (λ i. count_of h (take i (seen self.items))) all in
     let next : lowest_pair (height_count - (h + 1)) (h + 1) free ≡ lowest_pair (height_count - h) h free =
-    pair_on (height_count - (h + 1)) h free (record { found = false; lower = s; upper = s; others = self })
-    (few_pair h free (omega (arith, count, c.if-n-gt1.false))) (height_count - h) (h + 1) (omega arith) (omega arith) refl in
+    pair_on (height_count - (h + 1)) h free (few_pair h free (omega (arith, count, c.if-n-gt1.false))) (height_count - h)
+    (h + 1) (omega arith) (omega arith) in
     (l.invariant.0, refl, omega arith, next ∙ l.invariant.3)
 
 pub returns : goal.returns

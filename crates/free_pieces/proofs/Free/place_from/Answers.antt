@@ -1,7 +1,6 @@
 -- `Free::place_from` finds the first piece of a height from a place on: from each place that it comes to on, it is the
 -- same one. Assumes nothing.
 use mathlib.Core.Path.{◌∙◌, ◌≡◌, ap, refl, sym}
-use Prim.Native.Nat.{◌-◌}
 use native.Mathlib.Omega.{arith}
 use lib.ListN.{length}
 use borrow.Author.Rules.{rules}

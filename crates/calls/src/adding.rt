@@ -10,7 +10,7 @@ use crate::Changed;
 use answers::Refusal;
 use looking::free_in;
 use section::Section;
-use table::{Entry, FileAt, Table};
+use table::{Entry, Table};
 
 // The file's pieces taken, its pages written, and the table with it.
 pub fn place_file(disk: &mut [u8], t: Table, id: u32, n: u32, content: &[u8]) -> Table
@@ -35,9 +35,7 @@ fn add_file(disk: &mut [u8], t: Table, id: u16, content: &[u8]) -> Result<Change
     ensures { Makes t.blocks (λ v cat. add_on v (layout_of t) id content.now cat disk.old)
         disk.new result }
 {
-    let looked = t.look_up(id as u32);
-    let file = looked.file;
-    if let FileAt::Place(_) = file {
+    if let Some(_) = t.look_up(id as u32).file {
         return Err(Refusal::IdThere);
     }
     if content.len() == 0 {

@@ -9,7 +9,7 @@ use crate::Changed;
 use answers::Refusal;
 use section::Section;
 use settling::{Settled, settle};
-use table::{FileAt, Table};
+use table::Table;
 
 // The file at place `i` taken out: it is released, and its pieces are merged with the free ones to the end.
 pub fn take_out(disk: &mut [u8], t: Table, i: usize) -> Settled
@@ -32,9 +32,7 @@ pub fn remove_in(disk: &mut [u8], t: Table, id: u16) -> Result<Changed, Refusal>
     if id == 0 {
         return Err(Refusal::IdZero);
     }
-    let looked = t.look_up(id as u32);
-    let file = looked.file;
-    let FileAt::Place(i) = file else {
+    let Some(i) = t.look_up(id as u32).file else {
         return Err(Refusal::IdMissing);
     };
     let s = take_out(disk, t, i);

@@ -11,7 +11,7 @@ use answers::Refusal;
 use looking::free_in;
 use quality::Letter;
 use section::Section;
-use table::{FileAt, Table};
+use table::Table;
 
 // The file at place `i` taken out, and the new one of its id placed: the answer is the blocks that were copied.
 fn exchange(
@@ -84,9 +84,7 @@ pub fn replace_in(disk: &mut [u8], t: Table, id: u16, content: &[u8]) -> Result<
     if id == 0 {
         return Err(Refusal::IdZero);
     }
-    let looked = t.look_up(id as u32);
-    let file = looked.file;
-    let FileAt::Place(i) = file else {
+    let Some(i) = t.look_up(id as u32).file else {
         return Err(Refusal::IdMissing);
     };
     if content.len() == 0 {

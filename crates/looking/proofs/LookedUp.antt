@@ -27,7 +27,7 @@ use Rattle.table.specs.Files.{entry_at, no_entry}
 use Rattle.table.specs.LookUps.{FirstOf, LooksUp, found_at}
 use Rattle.piece_lists.specs.Few.{piece_places}
 use Rattle.table.specs.Tables.{InPlaces, file_of, files_of, layout_of, pieces_in}
-use Rattle.table.specs.declared.FileAt.TheVariants as FileAt·
+use Rattle.std.specs.Prelude.{None, Some}
 use Rattle.table.specs.declared.LookedUp.{LookedUp}
 use Rattle.table.specs.declared.Table.{Table}
 use Rattle.pieces.proofs.SoundPieces.{files-low}
@@ -40,15 +40,15 @@ opened_rises t opened = sound_rises opened.rules
 
 -- the result of a look-up: none, or the first file of the id
 module _ (t : Table) (opened : Opened t) (id : ℕ) (r : LookedUp) (looked : LooksUp t id r) where
-  pub looked_missing : r.file ≡ FileAt·.Missing → find_file id (layout_of t).files ≡ missing
+  pub looked_missing : r.file ≡ None → find_file id (layout_of t).files ≡ missing
   unfolding layout_of
   looked_missing e = sym (look_up_file t id r (opened_rises t opened) looked) ∙ ap (found_at t) e
 
   -- no file has the id
-  pub looked_fresh : r.file ≡ FileAt·.Missing → has_file id (layout_of t).files ≡ false
+  pub looked_fresh : r.file ≡ None → has_file id (layout_of t).files ≡ false
   looked_fresh e = ap is_found (looked_missing e)
 
-  pub looked_first : {i : ℕ} → r.file ≡ FileAt·.Place i → FirstOf t id i
+  pub looked_first : {i : ℕ} → r.file ≡ Some i → FirstOf t id i
   looked_first {i} e = looked.place i e
 
 -- the first file of an id

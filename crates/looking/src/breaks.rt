@@ -8,7 +8,7 @@ ghost use Rattle.answers.specs.Answers.{reply_of};
 ghost use Rattle.looking.specs.Opened.{Opened};
 
 use answers::{Answer, Answered, Refusal};
-use table::{FileAt, Table};
+use table::Table;
 
 // How many breaks a file has.
 pub fn breaks_in(t: Table, id: u16) -> Answer
@@ -19,14 +19,9 @@ pub fn breaks_in(t: Table, id: u16) -> Answer
     if id == 0 {
         return Err(Refusal::IdZero);
     }
-    let looked = t.look_up(id as u32);
-    let file = looked.file;
-    let FileAt::Place(i) = file else {
+    let Some(i) = t.look_up(id as u32).file else {
         return Err(Refusal::IdMissing);
     };
-    let files = t.files;
-    let e = files[i];
-    let list = e.pieces;
-    let n = list.breaks();
+    let n = t.files[i].pieces.breaks();
     Ok(Answered::Number(n))
 }

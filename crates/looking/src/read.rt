@@ -6,7 +6,7 @@ ghost use Rattle.looking.specs.Opened.{Opened, read_on};
 
 use answers::{Answer, Answered, Refusal};
 use section::Section;
-use table::{FileAt, Table};
+use table::Table;
 
 // Fills the output with a file's pages from `first` on.
 pub fn read_in(disk: &[u8], t: Table, id: u16, first: u64, out: &mut [u8]) -> Answer
@@ -22,9 +22,7 @@ pub fn read_in(disk: &[u8], t: Table, id: u16, first: u64, out: &mut [u8]) -> An
     if id == 0 {
         return Err(Refusal::IdZero);
     }
-    let looked = t.look_up(id as u32);
-    let file = looked.file;
-    let FileAt::Place(i) = file else {
+    let Some(i) = t.look_up(id as u32).file else {
         return Err(Refusal::IdMissing);
     };
     if out.len() == 0 {
@@ -33,8 +31,7 @@ pub fn read_in(disk: &[u8], t: Table, id: u16, first: u64, out: &mut [u8]) -> An
     if out.len() % Section::BLOCK_SIZE != 0 {
         return Err(Refusal::BufferLength);
     }
-    let files = t.files;
-    let e = files[i];
+    let e = t.files[i];
     let n = pieces::blocks_of(e) as usize;
     let count = out.len() / Section::BLOCK_SIZE;
     if count > n {

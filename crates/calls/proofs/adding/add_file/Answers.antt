@@ -7,17 +7,17 @@ use Rattle.calls.proofs.AddJudged.{answer-add, can_add, refuse-empty, refuse-fil
 use Rattle.calls.proofs.AddJudged.{refuse_there}
 use Rattle.calls.proofs.adding.add_file.Goals as goal
 
-pub look_up-looked-requires : goal.look_up-looked-requires
-look_up-looked-requires c =
+pub look_up-requires : goal.look_up-requires
+look_up-requires c =
     record {
       count_le_most_files = c.requires.opened.sized.files;
       by_rising_id = opened_rises c.args.t c.requires.opened;
     }
 
-pub returns-in-Place : goal.returns-in-Place
-returns-in-Place c =
-    let p = c.look_up-looked in
-    let e = c.in-Place.is in
+pub returns-in-Some : goal.returns-in-Some
+returns-in-Some c =
+    let p = c.look_up in
+    let e = c.in-Some.is in
     let x = looked_first c.args.t c.requires.opened c.args.id p.result p.ensures e in
     (refuse_there c.args.t c.requires.opened c.args.id c.args.content.now c.args.disk.now c.requires.disk_len.0
     (λ z. omega (arith, c.requires.disk_len.1))
@@ -25,7 +25,7 @@ returns-in-Place c =
 
 pub returns-then-content-eq0 : goal.returns-then-content-eq0
 returns-then-content-eq0 c =
-    let p = c.look_up-looked in
+    let p = c.look_up in
     let e = c.in_default.is in
     (refuse-empty c.args.t c.requires.opened c.args.id c.args.content.now c.args.disk.now c.requires.disk_len.0
     (λ z. omega (arith, c.requires.disk_len.1))
@@ -34,7 +34,7 @@ returns-then-content-eq0 c =
 
 pub returns-then-content-ne0 : goal.returns-then-content-ne0
 returns-then-content-ne0 c =
-    let p = c.look_up-looked in
+    let p = c.look_up in
     let e = c.in_default.is in
     (refuse_part c.args.t c.requires.opened c.args.id c.args.content.now c.args.disk.now c.requires.disk_len.0
     (λ z. omega (arith, c.requires.disk_len.1))
@@ -44,7 +44,7 @@ returns-then-content-ne0 c =
 
 pub returns-then-t-ge-MOST_FILES : goal.returns-then-t-ge-MOST_FILES
 returns-then-t-ge-MOST_FILES c =
-    let p = c.look_up-looked in
+    let p = c.look_up in
     let e = c.in_default.is in
     (refuse-files c.args.t c.requires.opened c.args.id c.args.content.now c.args.disk.now c.requires.disk_len.0
     (λ z. omega (arith, c.requires.disk_len.1))
@@ -55,7 +55,7 @@ returns-then-t-ge-MOST_FILES c =
 
 pub returns-then-free-pages : goal.returns-then-free-pages
 returns-then-free-pages c =
-    let p = c.look_up-looked in
+    let p = c.look_up in
     let e = c.in_default.is in
     let n = c.free_in-free in
     (refuse-space c.args.t c.requires.opened c.args.id c.args.content.now c.args.disk.now c.requires.disk_len.0
@@ -69,7 +69,7 @@ returns-then-free-pages c =
 
 pub place_file-table-requires : goal.place_file-table-requires
 place_file-table-requires c =
-    let p = c.look_up-looked in
+    let p = c.look_up in
     let e = c.in_default.is in
     let n = c.free_in-free in
     can_add c.args.t c.requires.opened c.args.id c.args.content.now c.args.disk.now c.requires.disk_len.0
@@ -87,7 +87,7 @@ returns c =
     let k = c.place_file-table in
     let n = c.free_in-free in
     let can =
-    let p = c.look_up-looked in
+    let p = c.look_up in
     let e = c.in_default.is in
     can_add c.args.t c.requires.opened c.args.id c.args.content.now c.args.disk.now c.requires.disk_len.0
     (λ z. omega (arith, c.requires.disk_len.1))

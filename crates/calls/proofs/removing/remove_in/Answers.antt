@@ -12,8 +12,8 @@ pub returns-then-id-eq0 : goal.returns-then-id-eq0
 returns-then-id-eq0 c =
     (remove-id-zero c.args.t c.requires c.args.id c.args.disk.now c.if-disk-t.false c.if-id-eq0.true)
 
-pub look_up-looked-requires : goal.look_up-looked-requires
-look_up-looked-requires c =
+pub look_up-requires : goal.look_up-requires
+look_up-requires c =
     record {
       count_le_most_files = c.requires.sized.files;
       by_rising_id = opened_rises c.args.t c.requires;
@@ -23,18 +23,18 @@ pub returns-in_default : goal.returns-in_default
 returns-in_default c =
     (remove_missing c.args.t c.requires c.args.id c.args.disk.now c.if-disk-t.false
     c.if-id-eq0.false
-    (looked_missing c.args.t c.requires c.args.id c.look_up-looked.result c.look_up-looked.ensures
+    (looked_missing c.args.t c.requires c.args.id c.look_up.result c.look_up.ensures
     c.in_default.is))
 
 pub take_out-s-requires : goal.take_out-s-requires
 take_out-s-requires c =
     remove_can_take c.args.t c.requires c.args.id c.args.disk.now c.if-disk-t.false
-    c.if-id-eq0.false c.in-Place.i
-    (looked_first c.args.t c.requires c.args.id c.look_up-looked.result c.look_up-looked.ensures c.in-Place.is)
+    c.if-id-eq0.false c.in-Some.i
+    (looked_first c.args.t c.requires c.args.id c.look_up.result c.look_up.ensures c.in-Some.is)
 
 pub returns : goal.returns
 returns c =
     remove_makes c.args.t c.requires c.args.id c.args.disk.now c.if-disk-t.false
-    c.if-id-eq0.false c.in-Place.i
-    (looked_first c.args.t c.requires c.args.id c.look_up-looked.result c.look_up-looked.ensures c.in-Place.is) _
+    c.if-id-eq0.false c.in-Some.i
+    (looked_first c.args.t c.requires c.args.id c.look_up.result c.look_up.ensures c.in-Some.is) _
     c.take_out-s.result c.take_out-s.ensures

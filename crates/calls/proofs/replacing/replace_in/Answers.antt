@@ -16,8 +16,8 @@ returns-then-id-eq0 c =
     (refuse-zero c.args.t c.requires c.args.id c.args.content.now c.args.disk.now
     c.if-disk-t.false c.if-id-eq0.true)
 
-pub look_up-looked-requires : goal.look_up-looked-requires
-look_up-looked-requires c =
+pub look_up-requires : goal.look_up-requires
+look_up-requires c =
     record {
       count_le_most_files = c.requires.sized.files;
       by_rising_id = opened_rises c.args.t c.requires;
@@ -27,23 +27,23 @@ pub returns-in_default : goal.returns-in_default
 returns-in_default c =
     (refuse_missing c.args.t c.requires c.args.id c.args.content.now c.args.disk.now
     c.if-disk-t.false c.if-id-eq0.false
-    (looked_missing c.args.t c.requires c.args.id c.look_up-looked.result c.look_up-looked.ensures
+    (looked_missing c.args.t c.requires c.args.id c.look_up.result c.look_up.ensures
     c.in_default.is))
 
 pub returns-then-content-eq0 : goal.returns-then-content-eq0
 returns-then-content-eq0 c =
-    let x = looked_first c.args.t c.requires c.args.id c.look_up-looked.result c.look_up-looked.ensures c.in-Place.is in
+    let x = looked_first c.args.t c.requires c.args.id c.look_up.result c.look_up.ensures c.in-Some.is in
     (refuse-unpaged c.args.t c.requires c.args.id c.args.content.now c.args.disk.now
     c.if-disk-t.false c.if-id-eq0.false _
-    (looked_found c.args.t c.requires c.args.id c.in-Place.i x)
+    (looked_found c.args.t c.requires c.args.id c.in-Some.i x)
     (empty-unpaged c.args.content.now c.if-content-eq0.true))
 
 pub returns-then-content-ne0 : goal.returns-then-content-ne0
 returns-then-content-ne0 c =
-    let x = looked_first c.args.t c.requires c.args.id c.look_up-looked.result c.look_up-looked.ensures c.in-Place.is in
+    let x = looked_first c.args.t c.requires c.args.id c.look_up.result c.look_up.ensures c.in-Some.is in
     (refuse-unpaged c.args.t c.requires c.args.id c.args.content.now c.args.disk.now
     c.if-disk-t.false c.if-id-eq0.false _
-    (looked_found c.args.t c.requires c.args.id c.in-Place.i x)
+    (looked_found c.args.t c.requires c.args.id c.in-Some.i x)
     (part_unpaged c.args.content.now c.if-content-eq0.false c.if-content-ne0.true))
 
 pub replace_found-requires : goal.replace_found-requires
@@ -53,6 +53,6 @@ replace_found-requires c =
       disk = c.if-disk-t.false;
       least = omega (arith, c.if-id-eq0.false);
       most = omega (arith, c.ranges.id.fits);
-      place = looked_first c.args.t c.requires c.args.id c.look_up-looked.result c.look_up-looked.ensures c.in-Place.is;
+      place = looked_first c.args.t c.requires c.args.id c.look_up.result c.look_up.ensures c.in-Some.is;
       paged = whole_paged c.args.content.now c.if-content-eq0.false c.if-content-ne0.false;
     }

@@ -4,7 +4,6 @@ use Rattle.piece.specs.Packed.{seen}
 use Rattle.piece.proofs.Seen.{seen-length, seen_get}
 use Rattle.piece_lists.proofs.SeenPlaces.{each_read}
 use mathlib.Core.Path.{◌≡◌, ap, sym, ◌∙◌}
-use Prim.Native.Nat.{◌-◌}
 use native.Mathlib.Omega.{arith}
 use lib.ListN.{length}
 use borrow.Author.Rules.{rules}

@@ -25,8 +25,8 @@ returns-then-id-eq0 c =
       output = whole.1;
     }
 
-pub look_up-looked-requires : goal.look_up-looked-requires
-look_up-looked-requires c =
+pub look_up-requires : goal.look_up-requires
+look_up-requires c =
     record {
       count_le_most_files = c.requires.sized.files;
       by_rising_id = opened_rises c.args.t c.requires;
@@ -36,7 +36,7 @@ pub returns-in_default : goal.returns-in_default
 returns-in_default c =
     let whole = (read_missing c.args.t c.args.id c.args.first c.args.out.now c.args.disk.now c.if-disk-t.false
     c.if-id-eq0.false
-    (looked_missing c.args.t c.requires c.args.id c.look_up-looked.result c.look_up-looked.ensures c.in_default.is)) in
+    (looked_missing c.args.t c.requires c.args.id c.look_up.result c.look_up.ensures c.in_default.is)) in
     record {
       answer = whole.0;
       output = whole.1;
@@ -44,10 +44,10 @@ returns-in_default c =
 
 pub returns-then-out-eq0 : goal.returns-then-out-eq0
 returns-then-out-eq0 c =
-    let whole = (let x = looked_first c.args.t c.requires c.args.id c.look_up-looked.result c.look_up-looked.ensures c.in-Place.is in
+    let whole = (let x = looked_first c.args.t c.requires c.args.id c.look_up.result c.look_up.ensures c.in-Some.is in
     read-empty c.args.t c.args.id c.args.first c.args.out.now c.args.disk.now c.if-disk-t.false
-    c.if-id-eq0.false (file_of (entry_at c.args.t c.in-Place.i))
-    (looked_found c.args.t c.requires c.args.id c.in-Place.i x) c.if-out-eq0.true) in
+    c.if-id-eq0.false (file_of (entry_at c.args.t c.in-Some.i))
+    (looked_found c.args.t c.requires c.args.id c.in-Some.i x) c.if-out-eq0.true) in
     record {
       answer = whole.0;
       output = whole.1;
@@ -55,37 +55,37 @@ returns-then-out-eq0 c =
 
 pub returns-then-out-ne0 : goal.returns-then-out-ne0
 returns-then-out-ne0 c =
-    let whole = (let x = looked_first c.args.t c.requires c.args.id c.look_up-looked.result c.look_up-looked.ensures c.in-Place.is in
+    let whole = (let x = looked_first c.args.t c.requires c.args.id c.look_up.result c.look_up.ensures c.in-Some.is in
     read_broken c.args.t c.args.id c.args.first c.args.out.now c.args.disk.now c.if-disk-t.false
-    c.if-id-eq0.false (file_of (entry_at c.args.t c.in-Place.i))
-    (looked_found c.args.t c.requires c.args.id c.in-Place.i x)
+    c.if-id-eq0.false (file_of (entry_at c.args.t c.in-Some.i))
+    (looked_found c.args.t c.requires c.args.id c.in-Some.i x)
     c.if-out-eq0.false c.if-out-ne0.true) in
     record {
       answer = whole.0;
       output = whole.1;
     }
 
-pub offset_bounds-files-i : goal.offset_bounds-files-i
-offset_bounds-files-i c =
-    let x = looked_first c.args.t c.requires c.args.id c.look_up-looked.result c.look_up-looked.ensures c.in-Place.is in
+pub offset_bounds-t-i : goal.offset_bounds-t-i
+offset_bounds-t-i c =
+    let x = looked_first c.args.t c.requires c.args.id c.look_up.result c.look_up.ensures c.in-Some.is in
     search (rules, x.within, c.requires.sized.files)
 
-pub bounds-files-i : goal.bounds-files-i
-bounds-files-i c =
-    let x = looked_first c.args.t c.requires c.args.id c.look_up-looked.result c.look_up-looked.ensures c.in-Place.is in
+pub bounds-t-i : goal.bounds-t-i
+bounds-t-i c =
+    let x = looked_first c.args.t c.requires c.args.id c.look_up.result c.look_up.ensures c.in-Some.is in
     omega (arith, x.within, c.requires.sized.files)
 
 pub blocks_of-n-requires : goal.blocks_of-n-requires
 blocks_of-n-requires c =
-    let x = looked_first c.args.t c.requires c.args.id c.look_up-looked.result c.look_up-looked.ensures c.in-Place.is in
-    looked_low c.args.t c.requires c.args.id c.in-Place.i x
+    let x = looked_first c.args.t c.requires c.args.id c.look_up.result c.look_up.ensures c.in-Some.is in
+    looked_low c.args.t c.requires c.args.id c.in-Some.i x
 
 pub returns-then-count-n : goal.returns-then-count-n
 returns-then-count-n c =
-    let whole = (let x = looked_first c.args.t c.requires c.args.id c.look_up-looked.result c.look_up-looked.ensures c.in-Place.is in
+    let whole = (let x = looked_first c.args.t c.requires c.args.id c.look_up.result c.look_up.ensures c.in-Some.is in
     read_past c.args.t c.args.id c.args.first c.args.out.now c.args.disk.now c.if-disk-t.false
-    c.if-id-eq0.false (file_of (entry_at c.args.t c.in-Place.i))
-    (looked_found c.args.t c.requires c.args.id c.in-Place.i x)
+    c.if-id-eq0.false (file_of (entry_at c.args.t c.in-Some.i))
+    (looked_found c.args.t c.requires c.args.id c.in-Some.i x)
     c.if-out-eq0.false c.if-out-ne0.false
     (omega (arith, c.blocks_of-n.ensures.equal, c.if-count-n.true))) in
     record {
@@ -95,10 +95,10 @@ returns-then-count-n c =
 
 pub returns-then-first-n : goal.returns-then-first-n
 returns-then-first-n c =
-    let whole = (let x = looked_first c.args.t c.requires c.args.id c.look_up-looked.result c.look_up-looked.ensures c.in-Place.is in
+    let whole = (let x = looked_first c.args.t c.requires c.args.id c.look_up.result c.look_up.ensures c.in-Some.is in
     read_past c.args.t c.args.id c.args.first c.args.out.now c.args.disk.now c.if-disk-t.false
-    c.if-id-eq0.false (file_of (entry_at c.args.t c.in-Place.i))
-    (looked_found c.args.t c.requires c.args.id c.in-Place.i x)
+    c.if-id-eq0.false (file_of (entry_at c.args.t c.in-Some.i))
+    (looked_found c.args.t c.requires c.args.id c.in-Some.i x)
     c.if-out-eq0.false c.if-out-ne0.false
     (omega (arith, c.blocks_of-n.ensures.equal, c.if-count-n.false, c.if-first-n.true))) in
     record {
@@ -108,26 +108,26 @@ returns-then-first-n c =
 
 pub read_pages-requires : goal.read_pages-requires
 read_pages-requires c =
-    let x = looked_first c.args.t c.requires c.args.id c.look_up-looked.result c.look_up-looked.ensures c.in-Place.is in
+    let x = looked_first c.args.t c.requires c.args.id c.look_up.result c.look_up.ensures c.in-Some.is in
     let n = c.blocks_of-n.ensures.equal in
     record {
       entry =
           rw c.if-disk-t.false
-          (looked_fits c.args.t c.requires c.args.id c.in-Place.i x);
+          (looked_fits c.args.t c.requires c.args.id c.in-Some.i x);
       whole =
           read_whole c.args.t c.args.id c.args.first c.args.out.now c.args.disk.now c.if-disk-t.false
-          c.if-id-eq0.false (file_of (entry_at c.args.t c.in-Place.i))
-          (looked_found c.args.t c.requires c.args.id c.in-Place.i x)
+          c.if-id-eq0.false (file_of (entry_at c.args.t c.in-Some.i))
+          (looked_found c.args.t c.requires c.args.id c.in-Some.i x)
           c.if-out-eq0.false c.if-out-ne0.false;
       pages = omega (arith, n, c.if-count-n.false, c.if-first-n.false);
     }
 
 pub returns : goal.returns
 returns c =
-    let x = looked_first c.args.t c.requires c.args.id c.look_up-looked.result c.look_up-looked.ensures c.in-Place.is in
+    let x = looked_first c.args.t c.requires c.args.id c.look_up.result c.look_up.ensures c.in-Some.is in
     let r = read_answered c.args.t c.args.id c.args.first c.args.out.now c.args.disk.now c.if-disk-t.false
-    c.if-id-eq0.false (file_of (entry_at c.args.t c.in-Place.i))
-    (looked_found c.args.t c.requires c.args.id c.in-Place.i x)
+    c.if-id-eq0.false (file_of (entry_at c.args.t c.in-Some.i))
+    (looked_found c.args.t c.requires c.args.id c.in-Some.i x)
     c.if-out-eq0.false c.if-out-ne0.false
     (omega (arith, c.blocks_of-n.ensures.equal, c.if-count-n.false, c.if-first-n.false)) in
     record {

@@ -1,21 +1,23 @@
 -- The copies of a run and of a merge: what is left of them, and how many they are. Assumes nothing.
+use mathlib.Core.Bool.{true}
 use mathlib.Core.List.{List, [], ◌++◌, ◌∷◌}
 use mathlib.Core.Path.{◌∙◌, ◌≡◌, ap, ap₂, refl, subst, sym}
 use Prim.Native.Nat.{◌*◌, ◌+◌, ◌-◌, ◌<◌, ◌≤◌, suc, ℕ}
 use native.Mathlib.Omega.{arith}
-use lib.ListN.{get_or, length, take}
+use lib.ListN.{get_or, length, length-take, take}
+use lib.Seq.{get_or-take}
 use Rattle.blocks.specs.DiskCode.{Copied, HasRun, MergeFits}
 use Rattle.free_pieces.specs.Gaps.{Gaps, PairFits, gap_copies}
 use Rattle.free_pieces.specs.declared.Gap.{Gap}
 use Rattle.free_pieces.specs.declared.Pair.{Pair}
-use Rattle.free_pieces.proofs.GapSteps.{Counting, counting_end, counting_more, counting_start, gap_bounds, gap_last}
-use Rattle.free_pieces.proofs.GapSteps.{gap_more, later}
+use Rattle.free_pieces.proofs.GapSteps.{Counting, counting_end, counting_gap, counting_more, counting_start, gap_bounds}
+use Rattle.free_pieces.proofs.GapSteps.{gap_last, gap_more, later}
 use Rattle.layout.specs.Removing.{Copy, copy_run}
 use Rattle.piece.specs.Packed.{no_piece, section_in, seen}
 use Rattle.piece.specs.declared.Piece.{Piece}
 use Rattle.manager.specs.Disk.{block, run_copies, store_block}
 use Rattle.section.specs.Limits.{block_size, greatest_disk}
-use Rattle.section.specs.Sections.{buddy_of, end_of, length_of}
+use Rattle.section.specs.Sections.{Addressable, buddy_of, end_of, is_inside, length_of}
 use Rattle.section.specs.declared.Section.{Section}
 
 pub copies_start : (d : List ℕ) (a b n : ℕ)
@@ -90,35 +92,47 @@ module _ (b : Section) (u : ℕ) (items : List Piece) (m at copied j : ℕ) (d�
   pub copying_place : u + (at - b.first) ≤ greatest_disk
   copying_place = omega (arith, k.counting.left.high, k.room.upper, k.room.disk)
 
-  module _ (s : Section) (lt : j < m) (is : s ≡ section_in (get_or items j no_piece)) (r : Gap) (e : Gaps b at s r) where
-    -- a gap has room
-    pub copying_run : HasRun (length d) at r.count × HasRun (length d) (u + (at - b.first)) r.count
-    copying_run =
-        let w = gap_bounds b items m j at s k.counting.within lt is k.counting.left r e in
-        (omega (arith, w, k.room.buddy), omega (arith, w, k.room.upper, k.counting.left.low))
+  -- the next piece, in the word s
+  module _ (s : Section) (here : j < length (take m items))
+      (word : s ≡ section_in (get_or (take m items) j no_piece)) where
+    lt : j < m
+    lt = omega (arith, length-take m items)
 
-    -- the copies that are made are no more than the disk's blocks
-    pub copying_most : copied + r.count ≤ greatest_disk
-    copying_most =
-        let w = gap_bounds b items m j at s k.counting.within lt is k.counting.left r e in
-        omega (arith, w, k.counting.bounded, k.room.buddy, k.room.disk)
+    is : s ≡ section_in (get_or items j no_piece)
+    is = word ∙ ap section_in (get_or-take m items j no_piece lt)
 
-    pub copying_more : (d' : List ℕ) (n : ℕ)
-        → Copied d d' (copy_run at (u + (at - b.first)) r.count) r.count n → n ≡ r.count
-        → Copying b u items m r.past (copied + n) (j + 1) d₀ d'
-    copying_more d' n c all = record {
-      counting =
-          subst (λ x. Counting b items m r.past (copied + x) (j + 1)) (sym all)
-          (counting_more b items m at copied j k.counting s lt is r e);
-      disk =
-          ap (λ x. run_copies x (gap_copies b u r.past (later items m (j + 1)))) c.disk
-          ∙ (sym (run_append (copy_run at (u + (at - b.first)) r.count)
-          (gap_copies b u r.past (later items m (j + 1))) d)
-          ∙ (ap (run_copies d)
-          (sym (gap_more b items m j at s k.counting.within lt is k.counting.left r e u)) ∙ k.disk));
-      same = c.same ∙ k.same;
-      room = subst (Room b u) (sym c.same) k.room;
-    }
+    pub copying_gap : (Addressable b × Addressable s) × (is_inside s b ≡ true → at ≤ s.first)
+    copying_gap = counting_gap b items m at copied j k.counting s lt is
+
+    module _ (r : Gap) (e : Gaps b at s r) where
+      -- a gap has room
+      pub copying_run : HasRun (length d) at r.count × HasRun (length d) (u + (at - b.first)) r.count
+      copying_run =
+          let w = gap_bounds b items m j at s k.counting.within lt is k.counting.left r e in
+          (omega (arith, w, k.room.buddy), omega (arith, w, k.room.upper, k.counting.left.low))
+
+      -- the copies that are made are no more than the disk's blocks
+      pub copying_most : copied + r.count ≤ greatest_disk
+      copying_most =
+          let w = gap_bounds b items m j at s k.counting.within lt is k.counting.left r e in
+          omega (arith, w, k.counting.bounded, k.room.buddy, k.room.disk)
+
+      pub copying_more : (d' : List ℕ) (n : ℕ)
+          → Copied d d' (copy_run at (u + (at - b.first)) r.count) r.count n → n ≡ r.count
+          → Copying b u items m r.past (copied + n) (j + 1) d₀ d'
+      copying_more d' n c all = record {
+        counting =
+            subst (λ x. Counting b items m r.past (copied + x) (j + 1)) (sym all)
+            (counting_more b items m at copied j k.counting s lt is r e);
+        disk =
+            ap (λ x. run_copies x (gap_copies b u r.past (later items m (j + 1)))) c.disk
+            ∙ (sym (run_append (copy_run at (u + (at - b.first)) r.count)
+            (gap_copies b u r.past (later items m (j + 1))) d)
+            ∙ (ap (run_copies d)
+            (sym (gap_more b items m j at s k.counting.within lt is k.counting.left r e u)) ∙ k.disk));
+        same = c.same ∙ k.same;
+        room = subst (Room b u) (sym c.same) k.room;
+      }
 
   -- what is left after the last piece has room
   pub copying_rest : (e : ℕ) → e ≡ end_of b - at
@@ -129,15 +143,16 @@ module _ (b : Section) (u : ℕ) (items : List Piece) (m at copied j : ℕ) (d�
     omega (arith, k.counting.bounded, k.counting.left.high, k.room.buddy, k.room.disk),
   )
 
-  pub copying_end : m ≤ j → (e : ℕ) → e ≡ end_of b - at → (d' : List ℕ) (n : ℕ)
+  pub copying_end : length (take m items) ≤ j → (e : ℕ) → e ≡ end_of b - at → (d' : List ℕ) (n : ℕ)
       → Copied d d' (copy_run at (u + (at - b.first)) e) e n → n ≡ e
       → Copied d₀ d' (gap_copies b u b.first (take m (seen items))) greatest_disk (copied + n)
-  copying_end le e q d' n c all = record {
-    disk =
-        c.disk
-        ∙ (ap (λ x. run_copies d (copy_run at (u + (at - b.first)) x)) q
-        ∙ (ap (run_copies d) (sym (gap_last b u at items m j k.counting.within le)) ∙ k.disk));
-    count = omega (arith, counting_end b items m at copied j k.counting le u);
-    most = omega (arith, (copying_rest e q).2);
-    same = c.same ∙ k.same;
-  }
+  copying_end past e q d' n c all =
+      let le : m ≤ j = omega (arith, k.counting.within, length-take m items) in record {
+        disk =
+            c.disk
+            ∙ (ap (λ x. run_copies d (copy_run at (u + (at - b.first)) x)) q
+            ∙ (ap (run_copies d) (sym (gap_last b u at items m j k.counting.within le)) ∙ k.disk));
+        count = omega (arith, counting_end b items m at copied j k.counting le u);
+        most = omega (arith, (copying_rest e q).2);
+        same = c.same ∙ k.same;
+      }

@@ -8,7 +8,6 @@ use Rattle.layout.specs.Layout.{OnDisk}
 use Rattle.layout.specs.Lists.{Each}
 use Rattle.section.proofs.Lengths.{pow_lt_inv}
 use Rattle.section.specs.Limits.{block_size, greatest_disk, greatest_height, height_count}
-use Rattle.section.specs.Nesting.{upper}
 use Rattle.section.specs.Sections.{buddy_of, end_of}
 use Rattle.section.specs.declared.Section.{Section}
 use Rattle.piece_lists.specs.Few.{piece_places}

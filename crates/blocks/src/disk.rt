@@ -1,7 +1,6 @@
 // Blocks and pages: copies within the disk, and pages written to the blocks of pieces.
 //
-// Every function works on the caller's bytes in place. Blocks and pages are moved byte by byte, in a loop over a fixed
-// number of bytes.
+// Every function works on the caller's bytes in place. A block or a page is moved as a whole.
 ghost use Rattle.std.specs.Prelude.{◌≡◌, ◌*◌, ◌≤◌, length, drop};
 ghost use Rattle.section.specs.Limits.{block_size, greatest_disk};
 ghost use Rattle.layout.specs.Layout.{block_run, blocks_of};
@@ -23,11 +22,7 @@ pub fn copy_block(disk: &mut [u8], from: u32, to: u32)
 {
     let source = Section::BLOCK_SIZE * (from as usize);
     let target = Section::BLOCK_SIZE * (to as usize);
-    let mut i: usize = 0;
-    while i < Section::BLOCK_SIZE {
-        disk[target + i] = disk[source + i];
-        i += 1;
-    }
+    disk.copy_within(source..source + Section::BLOCK_SIZE, target);
 }
 
 // Copies the `n` blocks from `from` on to the places from `to` on, in order, and answers how many copies it made.
@@ -38,12 +33,10 @@ pub fn copy_run(disk: &mut [u8], from: u32, to: u32, n: u32) -> u32
     ensures copies { Copied disk.old disk.new (copy_run from to n) n result }
     ensures all { result ≡ n }
 {
-    let mut made: u32 = 0;
-    while made < n {
+    for made in 0..n {
         copy_block(disk, from + made, to + made);
-        made += 1;
     }
-    made
+    n
 }
 
 // Makes the copies of a merge, the blocks of the lower section's buddy that lie between the free pieces to the upper
@@ -53,25 +46,19 @@ pub fn copy_merge(disk: &mut [u8], p: Pair) -> u32
     requires pair_fits { PairFits p }
     ensures { Copied disk.old disk.new (pair_copies p) greatest_disk result }
 {
-    let lower = p.lower;
     let upper = p.upper;
-    let buddy = lower.buddy();
+    let others = p.others;
+    let buddy = p.lower.buddy();
     if buddy.first == upper.first {
         return 0;
     }
-    let others = p.others;
-    let m = others.count;
     let mut at = buddy.first;
     let mut copied: u32 = 0;
-    let mut j: usize = 0;
-    while j < m {
-        let piece = others.items[j];
-        let s = piece.section();
-        let gap = gap_before(buddy, at, s);
+    for piece in &others.items[..others.count] {
+        let gap = gap_before(buddy, at, piece.section());
         let made = copy_run(disk, at, upper.first + (at - buddy.first), gap.count);
         copied += made;
         at = gap.past;
-        j += 1;
     }
     let made = copy_run(disk, at, upper.first + (at - buddy.first), buddy.end() - at);
     copied + made
@@ -85,11 +72,8 @@ pub fn store_block(target: &mut [u8], to: usize, source: &[u8], from: usize)
 {
     let first = Section::BLOCK_SIZE * from;
     let place = Section::BLOCK_SIZE * to;
-    let mut i: usize = 0;
-    while i < Section::BLOCK_SIZE {
-        target[place + i] = source[first + i];
-        i += 1;
-    }
+    let bytes = &source[first..first + Section::BLOCK_SIZE];
+    target[place..place + Section::BLOCK_SIZE].copy_from_slice(bytes);
 }
 
 // Writes the `n` pages of the content from `page` on to the blocks from `to` on.
@@ -99,10 +83,8 @@ fn write_run(disk: &mut [u8], to: usize, content: &[u8], page: usize, n: usize)
     ensures { disk.new
         ≡ write_pages disk.old (block_run to n) (cut_pages n (drop (block_size * page) content.now)) }
 {
-    let mut i: usize = 0;
-    while i < n {
+    for i in 0..n {
         store_block(disk, to + i, content, page + i);
-        i += 1;
     }
 }
 
@@ -113,18 +95,11 @@ pub fn write_pages(disk: &mut [u8], content: &[u8], e: Entry)
         ≡ write_pages disk.old (blocks_of (pieces_in e))
         (cut_pages (page_count content.now) content.now) }
 {
-    let list = e.pieces;
-    let count = list.count;
-    let items = list.items;
     let mut page: usize = 0;
-    let mut j: usize = 0;
-    while j < count {
-        let piece = items[j];
+    for piece in e.pieces.as_slice() {
         let s = piece.section();
-        let h = s.height;
-        let n = h.length() as usize;
+        let n = s.height.length() as usize;
         write_run(disk, s.first as usize, content, page, n);
         page += n;
-        j += 1;
     }
 }

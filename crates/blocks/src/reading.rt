@@ -16,47 +16,39 @@ use section::Section;
 use table::Entry;
 
 // The run that starts with a page of a file, and none past its last page.
-pub fn run_of_page(e: Entry, page: usize) -> Run
+pub fn run_of_page(e: Entry, page: usize) -> Option<Run>
     requires { EntryFits (block_size * greatest_disk) e }
     ensures { RunAt (blocks_of (pieces_in e)) page result }
 {
-    let list = e.pieces;
-    let count = list.count;
-    let items = list.items;
     let mut rest = page;
-    let mut j: usize = 0;
-    while j < count {
-        let piece = items[j];
+    for piece in e.pieces.as_slice() {
         let s = piece.section();
-        let h = s.height;
-        let n = h.length();
+        let n = s.height.length();
         if rest < n as usize {
             let passed = rest as u32;
-            return Run {
+            return Some(Run {
                 first: s.first + passed,
                 left: n - passed,
-            };
+            });
         }
         rest -= n as usize;
-        j += 1;
     }
-    Run { first: 0, left: 0 }
+    None
 }
 
 // The run that starts with a page, from that of the page before it.
-pub fn run_on(e: Entry, page: usize, r: Run) -> Run
+pub fn run_on(e: Entry, page: usize, r: Option<Run>) -> Option<Run>
     requires entry_fits { EntryFits (block_size * greatest_disk) e }
     requires follows { Follows (blocks_of (pieces_in e)) page r }
     ensures { RunAt (blocks_of (pieces_in e)) page result }
 {
-    let left = r.left;
-    if 1 < left {
-        return Run {
-            first: r.first + 1,
-            left: left - 1,
-        };
+    match r {
+        Some(run) if 1 < run.left => Some(Run {
+            first: run.first + 1,
+            left: run.left - 1,
+        }),
+        _ => run_of_page(e, page),
     }
-    run_of_page(e, page)
 }
 
 // Fills the output with the file's pages from `first` on.
@@ -66,13 +58,10 @@ pub fn read_pages(disk: &[u8], e: Entry, first: usize, out: &mut [u8])
         ≡ join_pages (take (page_count out.old) (drop first (pages_on disk.now (pieces_in e)))) }
 {
     let count = out.len() / Section::BLOCK_SIZE;
-    let mut run = Run { first: 0, left: 0 };
-    let mut i: usize = 0;
-    while i < count {
+    let mut run = None;
+    for i in 0..count {
         run = run_on(e, first + i, run);
-        let b = run.first;
-        store_block(out, i, disk, b as usize);
-        i += 1;
+        store_block(out, i, disk, run.unwrap().first as usize);
     }
 }
 
@@ -82,10 +71,7 @@ pub fn first_letter(disk: &[u8], e: Entry) -> Letter
     requires bound { 1 ≤ block_count (pieces_in e) }
     ensures { result.byte ≡ first_letter (pages_on disk.now (pieces_in e)) }
 {
-    let list = e.pieces;
-    let items = list.items;
-    let piece = items[0];
-    let start = Section::BLOCK_SIZE * (piece.first() as usize);
+    let start = Section::BLOCK_SIZE * (e.pieces.as_slice()[0].first() as usize);
     let byte = disk[start + Letter::PLACE];
     Letter { byte }
 }

@@ -1,90 +1,60 @@
--- `run_of_page` goes through the pieces to the one that has the page. Among the pieces left, the page that is
--- left to pass is the page that is asked for. Assumes nothing.
-use Rattle.piece.specs.Packed.{seen}
-use Rattle.piece.proofs.Seen.{seen-length, seen_get}
-use Rattle.section.specs.Sections.{length_of}
-use Rattle.section.specs.declared.Section.{Section}
-use mathlib.Core.Path.{◌∙◌, ◌≡◌, refl, ap, subst, sym}
-use Prim.Native.Nat.{◌*◌, ◌-◌, ◌+◌}
+-- `run_of_page` goes through the pieces to the one that has the page. The blocks of the pieces left from the page
+-- that is left to pass on are the blocks of all pieces from the page that is asked for on. Assumes nothing.
+use mathlib.Core.Path.{◌∙◌, ap, refl, sym}
+use Prim.Native.Nat.{◌+◌, ◌-◌}
 use native.Mathlib.Omega.{arith}
-use lib.ListN.{length}
-use borrow.Author.Rules.{rules}
-use Rattle.blocks.proofs.DiskPieces.{piece_fits, run_here, run_later, run_none}
+use lib.ListN.{drop, length}
+use Rattle.blocks.proofs.DiskPieces.{piece_fits, piece_next, piece_past, run_here, run_later, run_past}
 use Rattle.blocks.proofs.RunSteps.{run_is}
-use Rattle.section.specs.Heights.{NoHigher}
-use Rattle.section.specs.Limits.{block_size, greatest_disk}
-use Rattle.piece_lists.proofs.Arrays.{length_of_mapped}
-use Rattle.piece_lists.specs.Few.{list_of, piece_places}
+use Rattle.layout.specs.Layout.{blocks_of}
+use Rattle.piece.specs.Packed.{seen}
+use Rattle.table.specs.Tables.{pieces_in}
 use Rattle.blocks.proofs.reading.run_of_page.Goals as goal
 
-pub loop-j-init : goal.loop-j-init
-loop-j-init c =
-    let e : length c.args.e.pieces.items ≡ piece_places = search (rules, length_of_mapped) in
-    (e, c.requires.count, omega arith, λ k. refl)
+pub loop-piece-init : goal.loop-piece-init
+loop-piece-init c = refl
 
 pub length-n-requires : goal.length-n-requires
-unfolding list_of
 length-n-requires c =
-    let e = c.args.e.pieces in
-    let n = seen-length e.items in
-    let p = piece_fits (block_size * greatest_disk) (seen e.items) e.count c.loop-j.j
-    (omega (arith, n, c.loop-j.invariant))
-    c.loop-j-test.true c.requires.pieces in
-    let x = c.section-s.ensures ∙ sym (seen_get e.items c.loop-j.j) in
-    subst (λ (z : Section). NoHigher z.height) (sym x) p.height
+    (piece_fits _ _ c.loop-piece-test.true _ c.section-s.ensures _ _ c.as_slice-piece-items.ensures.listed
+    c.requires).height
 
 pub overflow_add-result : goal.overflow_add-result
-unfolding list_of
 overflow_add-result c =
-    let e = c.args.e.pieces in
-    let n = seen-length e.items in
-    let p = piece_fits (block_size * greatest_disk) (seen e.items) e.count c.loop-j.j
-    (omega (arith, n, c.loop-j.invariant))
-    c.loop-j-test.true c.requires.pieces in
-    let x = c.section-s.ensures ∙ sym (seen_get e.items c.loop-j.j) in
-    omega (arith, p.within, ap (λ (z : Section). z.first) x, ap length_of x, c.length-n.ensures.equal)
+    let p = piece_fits _ _ c.loop-piece-test.true _ c.section-s.ensures _ _ c.as_slice-piece-items.ensures.listed
+    c.requires in
+    omega (arith, p.within, c.length-n.ensures.equal)
 
 pub returns-then-rest-n : goal.returns-then-rest-n
-unfolding list_of
 returns-then-rest-n c =
-    let e = c.args.e.pieces in
-    let n = seen-length e.items in
-    let v = c.loop-j.invariant in
-    let t = c.loop-j-test.true in
-    let k = c.length-n in
-    let x = c.section-s.ensures ∙ sym (seen_get e.items c.loop-j.j) in
-    let p = piece_fits (block_size * greatest_disk) (seen e.items) e.count c.loop-j.j (omega arith) t
-    c.requires.pieces in
-    let on = run_here (seen e.items) e.count c.loop-j.j c.loop-j.rest c.args.page (omega arith) v.3 t
-    k.result (k.ensures.equal ∙ ap length_of x) c.if-rest-n.true in
-    run_is _ _ _ _ (λ i q. ap (λ (z : Section). z.first + c.loop-j.rest + i) x ∙ on i q) (omega arith)
-    (omega (arith, p.within, ap (λ (z : Section). z.first) x, ap length_of x, k.ensures.equal))
+    let t = c.loop-piece-test.true in
+    let n = c.length-n.ensures.equal in
+    let listed = c.as_slice-piece-items.ensures.listed in
+    let l = pieces_in c.args.e in
+    let m = drop (c.loop-piece.piece-index + 1) (seen c.as_slice-piece-items.result.now) in
+    let page = c.args.page in
+    let rest = c.loop-piece.rest in
+    let next = piece_next _ _ t _ c.section-s.ensures in
+    let p = piece_fits _ _ t _ c.section-s.ensures _ _ listed c.requires in
+    let on = run_here c.section-s.result l m page rest (ap (λ z. drop rest (blocks_of z)) (sym next)
+    ∙ (c.loop-piece.invariant ∙ ap (λ z. drop page (blocks_of z)) listed)) in
+    run_is (blocks_of l) page (c.section-s.result.first + rest) (c.length-n.result - rest)
+    (λ i q. on i (omega (arith, n))) (omega arith) (omega (arith, p.within, n))
 
-pub loop-j-preserved : goal.loop-j-preserved
-loop-j-preserved c =
-    let e = c.args.e.pieces in
-    let n = seen-length e.items in
-    let v = c.loop-j.invariant in
-    let t = c.loop-j-test.true in
-    let k = c.length-n in
-    let x = c.section-s.ensures ∙ sym (seen_get e.items c.loop-j.j) in (
-      v.0,
-      v.1,
-      omega arith,
-      run_later (seen e.items) e.count c.loop-j.j c.loop-j.rest c.args.page (omega arith) v.3 t
-          k.result (k.ensures.equal ∙ ap length_of x) c.if-rest-n.false,
-    )
+pub loop-piece-preserved : goal.loop-piece-preserved
+loop-piece-preserved c =
+    let n = c.length-n.ensures.equal in
+    let l = seen c.as_slice-piece-items.result.now in
+    let m = drop (c.loop-piece.piece-index + 1) l in
+    let rest = c.loop-piece.rest in
+    let next = piece_next _ _ c.loop-piece-test.true _ c.section-s.ensures in
+    ap (λ z. drop (rest - z) (blocks_of m)) n
+    ∙ run_later c.section-s.result l m c.args.page rest
+    (ap (λ z. drop rest (blocks_of z)) (sym next) ∙ c.loop-piece.invariant) (omega (arith, n))
 
 pub returns : goal.returns
-unfolding list_of
 returns c =
-    let e = c.args.e.pieces in
-    let n = seen-length e.items in
-    let v = c.loop-j.invariant in
-    record {
-      first =
-          run_none (seen e.items) e.count c.loop-j.j c.loop-j.rest c.args.page (omega arith) v.3
-          c.loop-j-test.false;
-      next = λ i q. absurd (omega arith);
-      within = omega arith;
-    }
+    let l = c.as_slice-piece-items.result.now in
+    let last = piece_past l c.loop-piece.piece-index c.loop-piece-test.false in
+    let e = ap (λ z. length (blocks_of z)) c.as_slice-piece-items.ensures.listed in
+    omega (arith, e, run_past (seen l) _ c.args.page c.loop-piece.rest last c.loop-piece.invariant)

@@ -1,19 +1,11 @@
--- `run_of_page` goes through the pieces to the one that has the page. Among the pieces left, the page that is
--- left to pass is the page that is asked for. Assumes nothing.
-use Rattle.piece.specs.Packed.{seen}
+-- `run_of_page` goes through the pieces to the one that has the page. The blocks of the pieces left from the page
+-- that is left to pass on are the blocks of all pieces from the page that is asked for on. Assumes nothing.
 use mathlib.Core.Path.{◌≡◌}
-use Prim.Native.Nat.{◌-◌, ◌≤◌, ◌+◌, ℕ}
-use lib.ListN.{drop, get_or, length, take}
+use lib.ListN.{drop}
 use Rattle.layout.specs.Layout.{blocks_of}
-use Rattle.piece_lists.specs.Few.{piece_places}
+use Rattle.piece.specs.Packed.{seen}
 use Rattle.blocks.proofs.reading.run_of_page.Given as goal
 
-abbrev pub invariant-loop-j : goal.invariant-loop-j
-invariant-loop-j l =
-    (length l.items ≡ piece_places) × (l.count ≤ piece_places) × (l.j ≤ l.count)
-    × ((k : ℕ)
-    → get_or (blocks_of (drop l.j (take l.count (seen l.items)))) (l.rest + k) 0
-    ≡ get_or (blocks_of (take l.count (seen l.items))) (l.page + k) 0)
-
-abbrev pub decreases-loop-j : goal.decreases-loop-j
-decreases-loop-j l = l.count - l.j
+abbrev pub invariant-loop-piece : goal.invariant-loop-piece
+invariant-loop-piece l =
+    drop l.rest (blocks_of (drop l.piece-index (seen l.piece-items))) ≡ drop l.page (blocks_of (seen l.piece-items))

@@ -1,6 +1,13 @@
 -- `run_on` meets its contract: what is left of the run, or the run that is found. Assumes nothing.
+use mathlib.Core.Path.{subst}
 use Rattle.blocks.proofs.RunSteps.{run_more}
+use Rattle.blocks.specs.Runs.{Follows}
+use Rattle.layout.specs.Layout.{blocks_of}
+use Rattle.table.specs.Tables.{pieces_in}
 use Rattle.blocks.proofs.reading.run_on.Goals as goal
 
-pub returns-then-left-gt1 : goal.returns-then-left-gt1
-returns-then-left-gt1 c = run_more _ _ c.args.r c.requires.follows c.if-left-gt1.true
+pub returns-in-Some : goal.returns-in-Some
+returns-in-Some c =
+    let l = blocks_of (pieces_in c.args.e) in
+    run_more l c.args.page c.in-Some.run' (subst (Follows l c.args.page) c.in-Some.is c.requires.follows)
+    c.if-run-gt1.true

@@ -8,17 +8,5 @@ pub fn free_in(t: Table) -> u32
     requires { Opened t }
     ensures { IsFree t result }
 {
-    let free = t.free;
-    let count = free.count;
-    let items = free.items;
-    let mut sum: u32 = 0;
-    let mut j: usize = 0;
-    while j < count {
-        let piece = items[j];
-        let s = piece.section();
-        let h = s.height;
-        sum += h.length();
-        j += 1;
-    }
-    sum
+    pieces::blocks_in(&t.free.items[..t.free.count])
 }

@@ -1,3 +1,4 @@
 -- The laws of a file's pieces, by subject, and the proofs of the functions.
 pub mod PieceCounts
+pub mod SeenSums
 pub mod SoundPieces

@@ -1,79 +1,36 @@
--- `looking::free::free_in` adds up the lengths of the free pieces: what is added and the blocks of those left are all
--- free blocks. Assumes nothing.
-use Rattle.piece.specs.Packed.{seen}
-use Rattle.piece.proofs.Seen.{seen-length, seen_get}
-use Rattle.piece_lists.proofs.SeenPlaces.{each_read}
-use mathlib.Core.Path.{◌≡◌, ap, sym, ◌∙◌}
-use native.Mathlib.Omega.{arith}
-use lib.ListN.{length}
-use borrow.Author.Rules.{rules}
-use Rattle.section.specs.Sections.{length_of}
-use Rattle.piece_lists.proofs.Arrays.{length_of_mapped}
-use Rattle.free_pieces.specs.Free.{free_of, free_places}
-use Rattle.pieces.proofs.PieceCounts.{count_end, count_here}
+-- `looking::free::free_in` adds up the lengths of the free pieces. Assumes nothing.
+use Rattle.std.proofs.Common.{◌∙◌, ap, arith, subst, sym, take}
+use Rattle.piece.proofs.Seen.{seen-take}
+use Rattle.layout.specs.Layout.{block_count}
+use Rattle.layout.specs.Lists.{Each}
+use Rattle.free_pieces.specs.Free.{free_of}
+use Rattle.pieces.proofs.SeenSums.{low-seen, sum-seen}
 use Rattle.pieces.proofs.SoundPieces.{free-low}
 use Rattle.pieces.specs.Pieces.{Low}
 use Rattle.looking.proofs.FreeSum.{free-blocks, free_most}
 use Rattle.looking.proofs.free.free_in.Goals as goal
 
-pub loop-j-init : goal.loop-j-init
-loop-j-init c =
-    let t = c.args.t in
-    let e : length t.free.items ≡ free_places = search (rules, length_of_mapped) in
-    (e, c.requires.sized.free, omega arith, omega arith, omega (arith, free-blocks t c.requires, free_most t c.requires))
-
-pub length-sum-requires : goal.length-sum-requires
+pub blocks_in-requires-clause-low : goal.blocks_in-requires-clause-low
 unfolding free_of
-length-sum-requires c =
+blocks_in-requires-clause-low c =
     let t = c.args.t in
-    each_read {P = Low} t.free.items t.free.count c.loop-j.j c.section-s.result
-    (omega (arith, c.loop-j.invariant)) (free-low t c.requires.sized c.requires.rules)
-    c.loop-j-test.true
-    c.section-s.ensures
+    let f = t.free in
+    let e = seen-take f.count f.items in
+    low-seen (take f.count f.items) (subst (Each Low) e (free-low t c.requires.sized c.requires.rules))
 
-pub overflow_add-sum : goal.overflow_add-sum
-overflow_add-sum c =
+pub blocks_in-requires-clause-fits : goal.blocks_in-requires-clause-fits
+blocks_in-requires-clause-fits c =
     let t = c.args.t in
-    let n = seen-length t.free.items in
-    let s = ap length_of (c.section-s.ensures ∙ sym (seen_get t.free.items c.loop-j.j)) in
-    let v = c.loop-j.invariant in
-    omega (
-      arith,
-      count_here (seen t.free.items) t.free.count c.loop-j.j (omega arith)
-          c.loop-j-test.true,
-      s,
-      c.length-sum.ensures.equal,
-      v.3,
-      v.4,
-    )
-
-pub loop-j-preserved : goal.loop-j-preserved
-loop-j-preserved c =
-    let t = c.args.t in
-    let n = seen-length t.free.items in
-    let s = ap length_of (c.section-s.ensures ∙ sym (seen_get t.free.items c.loop-j.j)) in
-    let v = c.loop-j.invariant in
-    let l = c.loop-j-test.true in (
-      v.0,
-      v.1,
-      omega arith,
-      omega (
-        arith,
-        count_here (seen t.free.items) t.free.count c.loop-j.j (omega arith) l,
-        s,
-        c.length-sum.ensures.equal,
-        v.3,
-      ),
-      v.4,
-    )
+    let f = t.free in
+    let n = sum-seen (take f.count f.items) ∙ ap block_count (sym (seen-take f.count f.items)) in
+    omega (arith, n, free-blocks t c.requires, free_most t c.requires)
 
 pub returns : goal.returns
 returns c =
     let t = c.args.t in
-    let v = c.loop-j.invariant in
-    let m = seen-length t.free.items in
-    let n = count_end (seen t.free.items) t.free.count c.loop-j.j (omega arith) c.loop-j-test.false in
+    let f = t.free in
+    let n = sum-seen (take f.count f.items) ∙ ap block_count (sym (seen-take f.count f.items)) in
     record {
-      equal = omega (arith, n, v.3, free-blocks t c.requires);
-      most = omega (arith, n, v.3, v.4);
+      equal = c.blocks_in.ensures ∙ n ∙ free-blocks t c.requires;
+      most = omega (arith, c.blocks_in.ensures, n, free-blocks t c.requires, free_most t c.requires);
     }

@@ -1,0 +1,35 @@
+-- What holds of some pieces by their words, in the library's terms, and by the sections seen in them: their blocks, and
+-- that every height has a length. Assumes nothing.
+use Rattle.std.proofs.Common.{◌≡◌, ◌+◌, ◌*◌, ◌^◌, ◌≤◌, ◌∙◌, ap, refl, zero, suc, List, [], ◌∷◌, All, arith, length}
+use Rattle.std.proofs.Math.Pow.{pow_mono}
+use Rattle.std.specs.List.{sum_by}
+use Rattle.std.proofs.lemmas.List.{length-take}
+use Rattle.std.proofs.lemmas.List.Sums.{sum_by-cons}
+use Rattle.section.specs.Limits.{greatest_height}
+use Rattle.section.specs.declared.Section.{Section}
+use Rattle.layout.specs.Layout.{block_count}
+use Rattle.layout.specs.Lists.{Each, more}
+use Rattle.piece.specs.Packed.{seen}
+use Rattle.piece.specs.declared.Piece.{Piece}
+use Rattle.piece_lists.specs.Few.{list_of, piece_places}
+use Rattle.piece_lists.specs.declared.Pieces.{Pieces}
+use Rattle.pieces.specs.Pieces.{Low, LowPiece, most_of_file, piece_blocks}
+
+pub sum-seen : (l : List Piece) → sum_by piece_blocks l ≡ block_count (seen l)
+unfolding seen
+sum-seen [] = refl
+sum-seen (p ∷ l) = sum_by-cons piece_blocks p l ∙ ap (λ n. piece_blocks p + n) (sum-seen l)
+
+pub low-seen : (l : List Piece) → Each Low (seen l) → All LowPiece l
+unfolding seen
+low-seen [] e k d h = absurd (omega arith)
+low-seen (p ∷ l) (more q e) zero d h = q
+low-seen (p ∷ l) (more q e) (suc k) d h = low-seen l e k d (omega arith)
+
+low-most : (l : List Section) → Each Low l → block_count l ≤ length l * 2 ^ greatest_height
+low-most [] e = omega arith
+low-most (s ∷ l) (more q e) = omega (arith, pow_mono q, low-most l e)
+
+pub few-most : (p : Pieces) → p.count ≤ piece_places → Each Low (list_of p) → block_count (list_of p) ≤ most_of_file
+unfolding list_of
+few-most p h e = omega (arith, low-most (list_of p) e, length-take p.count (seen p.items))

@@ -1,23 +1,23 @@
 -- Which refusals a call gives, in the order of its checks; and the manager's conditions of it. Definitions only.
-use Rattle.std.specs.Prelude.{List, [], ◌++◌, ◌∷◌, map, ◌-◌, ℕ, length, replicate}
+use Rattle.std.specs.Prelude.{List, [], ◌∷◌, map, ℕ}
 use Rattle.catalogue.specs.Version.{version_of}
-use Rattle.manager.specs.Conditions.{Condition, Reply, add_conditions, answered, breaks_conditions, check_conditions}
-use Rattle.manager.specs.Conditions.{fits_already, format_conditions, free_conditions, read_conditions, refused}
+use Rattle.manager.specs.Conditions.{Condition, add_conditions, breaks_conditions, check_conditions}
+use Rattle.manager.specs.Conditions.{format_conditions, free_conditions, read_conditions}
 use Rattle.manager.specs.Conditions.{remove_conditions, replace_conditions, which_conditions}
 use Rattle.case_inputs.specs.declared.Call.{Call}
 use Rattle.case_inputs.specs.declared.Call.TheVariants as Call·
 
--- the numbers of a call's refusals by its checks, and zeros behind them: 9 in all
+-- the numbers of a call's refusals by its checks
 abbrev pub checks_of : Call → List ℕ
-checks_of Call·.Format = 1 ∷ 2 ∷ 0 ∷ 0 ∷ 0 ∷ 0 ∷ 0 ∷ 0 ∷ 0 ∷ []
-checks_of Call·.Add = 1 ∷ 3 ∷ 4 ∷ 5 ∷ 7 ∷ 8 ∷ 10 ∷ 11 ∷ 0 ∷ []
-checks_of Call·.Remove = 1 ∷ 3 ∷ 4 ∷ 5 ∷ 6 ∷ 0 ∷ 0 ∷ 0 ∷ 0 ∷ []
+checks_of Call·.Format = 1 ∷ 2 ∷ []
+checks_of Call·.Add = 1 ∷ 3 ∷ 4 ∷ 5 ∷ 7 ∷ 8 ∷ 10 ∷ 11 ∷ []
+checks_of Call·.Remove = 1 ∷ 3 ∷ 4 ∷ 5 ∷ 6 ∷ []
 checks_of Call·.Replace = 1 ∷ 3 ∷ 4 ∷ 5 ∷ 6 ∷ 8 ∷ 12 ∷ 13 ∷ 11 ∷ []
-checks_of Call·.Read = 1 ∷ 3 ∷ 4 ∷ 5 ∷ 6 ∷ 8 ∷ 9 ∷ 0 ∷ 0 ∷ []
-checks_of Call·.Breaks = 1 ∷ 3 ∷ 5 ∷ 6 ∷ 0 ∷ 0 ∷ 0 ∷ 0 ∷ 0 ∷ []
-checks_of Call·.Which = 1 ∷ 3 ∷ 8 ∷ 14 ∷ 0 ∷ 0 ∷ 0 ∷ 0 ∷ 0 ∷ []
-checks_of Call·.Free = 1 ∷ 3 ∷ 0 ∷ 0 ∷ 0 ∷ 0 ∷ 0 ∷ 0 ∷ 0 ∷ []
-checks_of Call·.Check = 1 ∷ 3 ∷ 4 ∷ 0 ∷ 0 ∷ 0 ∷ 0 ∷ 0 ∷ 0 ∷ []
+checks_of Call·.Read = 1 ∷ 3 ∷ 4 ∷ 5 ∷ 6 ∷ 8 ∷ 9 ∷ []
+checks_of Call·.Breaks = 1 ∷ 3 ∷ 5 ∷ 6 ∷ []
+checks_of Call·.Which = 1 ∷ 3 ∷ 8 ∷ 14 ∷ []
+checks_of Call·.Free = 1 ∷ 3 ∷ []
+checks_of Call·.Check = 1 ∷ 3 ∷ 4 ∷ []
 
 -- the conditions of a call with the id i, the first page or the number of blocks p, the content, output or list b, the
 -- catalogue and the disk
@@ -32,11 +32,6 @@ conditions_of Call·.Which i p b cat d = which_conditions (version_of cat) p b c
 conditions_of Call·.Free i p b cat d = free_conditions (version_of cat) cat
 conditions_of Call·.Check i p b cat d = check_conditions (version_of cat) cat d
 
--- their numbers in their order, and zeros behind them
+-- their numbers in their order
 abbrev pub numbers_in : List Condition → List ℕ
-numbers_in cs = map (λ (c : Condition). c.number) cs ++ replicate (9 - length cs) 0
-
-abbrev pub number_in : Reply → ℕ
-number_in (answered n) = 0
-number_in fits_already = 0
-number_in (refused n) = n
+numbers_in cs = map (λ (c : Condition). c.number) cs

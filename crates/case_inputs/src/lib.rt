@@ -1,14 +1,16 @@
-// The calls, the refusals that each of them gives, in the order of its checks, and the number of an answer that is one.
+// The calls, their names, and the refusals that each of them gives, in the order of its checks.
 #![tactic(auto)]
 
-ghost use Rattle.std.specs.Prelude.{◌≡◌};
-ghost use Rattle.looking.specs.Answers.{reply_of};
-ghost use Rattle.case_inputs.specs.Refusals.{checks_of, number_in};
+ghost use Rattle.std.specs.Prelude.{◌≡◌, map};
+ghost use Rattle.answers.specs.Answers.{number_of};
+ghost use Rattle.case_inputs.specs.Refusals.{checks_of};
 
-use looking::Answer;
+use answers::Refusal;
+use answers::Refusal::*;
+use std::fmt;
 
 // The calls.
-#[derive(Clone, Copy)]
+#[derive(Clone, Copy, Debug, PartialEq, Eq)]
 pub enum Call {
     Format,
     Add,
@@ -22,47 +24,83 @@ pub enum Call {
 }
 
 impl Call {
-    // So many refusals a call has at most.
-    pub const MOST_CHECKS: usize = 9;
+    // All of them.
+    pub const ALL: [Call; 9] = [
+        Call::Format,
+        Call::Add,
+        Call::Remove,
+        Call::Replace,
+        Call::Read,
+        Call::Breaks,
+        Call::Which,
+        Call::Free,
+        Call::Check,
+    ];
 }
 
-// The refusals of the call in the order of its checks, and zeros behind them.
-pub fn checks(call: Call) -> [u32; Call::MOST_CHECKS]
-    ensures { result ≡ checks_of call }
-{
-    match call {
-        Call::Format => [1, 2, 0, 0, 0, 0, 0, 0, 0],
-        Call::Add => [1, 3, 4, 5, 7, 8, 10, 11, 0],
-        Call::Remove => [1, 3, 4, 5, 6, 0, 0, 0, 0],
-        Call::Replace => [1, 3, 4, 5, 6, 8, 12, 13, 11],
-        Call::Read => [1, 3, 4, 5, 6, 8, 9, 0, 0],
-        Call::Breaks => [1, 3, 5, 6, 0, 0, 0, 0, 0],
-        Call::Which => [1, 3, 8, 14, 0, 0, 0, 0, 0],
-        Call::Free => [1, 3, 0, 0, 0, 0, 0, 0, 0],
-        Call::Check => [1, 3, 4, 0, 0, 0, 0, 0, 0],
+impl fmt::Display for Call {
+    fn fmt<W: fmt::Write>(&self, f: &mut fmt::Formatter<W>) -> fmt::Result {
+        f.write_str(match self {
+            Call::Format => "format",
+            Call::Add => "add",
+            Call::Remove => "remove",
+            Call::Replace => "replace",
+            Call::Read => "read",
+            Call::Breaks => "breaks",
+            Call::Which => "which",
+            Call::Free => "free",
+            Call::Check => "check",
+        })
     }
 }
 
-// The number of the refusal that an answer is, or 0.
-pub fn number_of(a: Answer) -> u32
-    ensures { result ≡ number_in (reply_of a) }
+// The refusals of the three calls that have most, in the order of their checks.
+const ADD_CHECKS: &'static [Refusal] = &[
+    CatalogueLength,
+    NotSound,
+    DiskLength,
+    IdZero,
+    IdThere,
+    BufferLength,
+    FilesFull,
+    NoSpace,
+];
+
+const REPLACE_CHECKS: &'static [Refusal] = &[
+    CatalogueLength,
+    NotSound,
+    DiskLength,
+    IdZero,
+    IdMissing,
+    BufferLength,
+    LetterUnknown,
+    LetterNotAbove,
+    NoSpace,
+];
+
+const READ_CHECKS: &'static [Refusal] = &[
+    CatalogueLength,
+    NotSound,
+    DiskLength,
+    IdZero,
+    IdMissing,
+    BufferLength,
+    PastEnd,
+];
+
+// The refusals of the call in the order of its checks.
+pub fn checks(call: Call) -> &'static [Refusal]
+    ensures { map number_of result.now ≡ checks_of call }
 {
-    match a {
-        Answer::Number(n) => 0,
-        Answer::FitsAlready => 0,
-        Answer::CatalogueLength => 1,
-        Answer::NoDisk => 2,
-        Answer::NotSound => 3,
-        Answer::DiskLength => 4,
-        Answer::IdZero => 5,
-        Answer::IdMissing => 6,
-        Answer::IdThere => 7,
-        Answer::BufferLength => 8,
-        Answer::PastEnd => 9,
-        Answer::FilesFull => 10,
-        Answer::NoSpace => 11,
-        Answer::LetterUnknown => 12,
-        Answer::LetterNotAbove => 13,
-        Answer::ListLength => 14,
+    match call {
+        Call::Format => &[CatalogueLength, NoDisk],
+        Call::Add => ADD_CHECKS,
+        Call::Remove => &[CatalogueLength, NotSound, DiskLength, IdZero, IdMissing],
+        Call::Replace => REPLACE_CHECKS,
+        Call::Read => READ_CHECKS,
+        Call::Breaks => &[CatalogueLength, NotSound, IdZero, IdMissing],
+        Call::Which => &[CatalogueLength, NotSound, BufferLength, ListLength],
+        Call::Free => &[CatalogueLength, NotSound],
+        Call::Check => &[CatalogueLength, NotSound, DiskLength],
     }
 }

@@ -1,11 +1,18 @@
 -- The lines of a file and the first line, from the numbers and the pieces that the code has. Assumes nothing.
-use mathlib.Core.List.{List, ◌++◌}
-use mathlib.Core.Path.{◌∙◌, ◌≡◌, ap}
-use Prim.Native.Nat.{ℕ}
-use Rattle.layout.specs.Layout.{File, Layout, by_first, file_blocks, free_blocks}
-use Rattle.layout.specs.Lists.{sort_by}
+use mathlib.Core.List.{List, [], ◌++◌, ◌∷◌, map}
+use mathlib.Core.Path.{◌∙◌, ◌≡◌, ap, refl}
+use Prim.Native.Nat.{◌+◌, ◌-◌, ℕ}
+use lib.ListN.{take}
+use Rattle.std.specs.List.{sum_by}
+use Rattle.std.proofs.lemmas.List.Sums.{sum_by-cons}
+use Rattle.layout.specs.Layout.{File, by_first, file_blocks}
+use Rattle.layout.specs.Lists.{sort_by, sum_of}
 use Rattle.manager.specs.Printing.{file_lines, first_line, pair_lines}
 use Rattle.section.specs.declared.Section.{Section}
+use Rattle.table.specs.Tables.{file_of, files_of, layout_of}
+use Rattle.table.specs.declared.Entry.{Entry}
+use Rattle.table.specs.declared.Table.{Table}
+use Rattle.printing.specs.Texts.{entry_blocks}
 use Rattle.printing.proofs.TextRoom.{blocks_start, file_middle, file_start, free_middle}
 use Rattle.texts.proofs.Writing.{appends_same, joined, room_after, room-first, room_same}
 use Rattle.texts.specs.Lines.{Appends, Room, line_of}
@@ -30,7 +37,14 @@ module _ (f : File) (n : ℕ) (l : List Section) (e : n ≡ file_blocks f) (p : 
       → Appends r (pair_lines l) o' o'' r' → Appends at (file_lines f) o o'' r'
   file-written a b = appends_same parts (joined a b)
 
--- n is the number of free blocks
-pub first_line_lem : (l : Layout) (n : ℕ) → n ≡ free_blocks l → line_of blocks_start l.blocks free_middle n ≡ first_line l
-unfolding first_line
-first_line_lem l n e = ap (λ k. line_of blocks_start l.blocks free_middle k) e
+-- the blocks of files, counted by entries
+pub files_blocks : (l : List Entry) → sum_by entry_blocks l ≡ sum_of file_blocks (map file_of l)
+files_blocks [] = refl
+files_blocks (e ∷ l) = sum_by-cons entry_blocks e l ∙ ap (λ n. entry_blocks e + n) (files_blocks l)
+
+-- n is the number of the files' blocks, and the others are free
+pub free_line : (t : Table) (n : ℕ) → n ≡ sum_by entry_blocks (take t.count t.files)
+    → line_of blocks_start t.blocks free_middle (t.blocks - n) ≡ first_line (layout_of t)
+unfolding files_of layout_of first_line
+free_line t n e =
+    ap (λ k. line_of blocks_start t.blocks free_middle (t.blocks - k)) (e ∙ files_blocks (take t.count t.files))

@@ -1,33 +1,35 @@
 -- One more row of a loop: the lines of pairs and of files. Assumes nothing.
 use mathlib.Core.List.{List, [], ◌++◌, map}
-use mathlib.Core.Path.{◌≡◌, ap}
+use mathlib.Core.Path.{◌≡◌}
 use Prim.Native.Nat.{◌+◌, ◌<◌, ◌≤◌, ℕ}
-use lib.ListN.{drop, get_or, length, take}
+use native.Mathlib.Numerals.{add-one}
+use lib.ListN.{drop, drop_of_length-le, get_or, length}
+use lib.Seq.{drop-cons}
 use Rattle.manager.specs.Printing.{all_file_lines, file_lines, pair_line, pair_lines}
-use Rattle.section.specs.Sections.{section}
-use Rattle.section.specs.declared.Section.{Section}
-use Rattle.piece_lists.proofs.Arrays.{ahead, behind}
+use Rattle.piece.specs.Packed.{no_piece, section_in, seen}
+use Rattle.piece.specs.declared.Piece.{Piece}
 use Rattle.table.specs.Files.{no_entry}
 use Rattle.table.specs.Tables.{file_of}
 use Rattle.table.specs.declared.Entry.{Entry}
 
-module _ (p : List Section) (m j : ℕ) (hm : m ≤ length p) where
-  pub pairs_ahead : j < m
-      → pair_lines (drop j (take m p)) ≡ pair_line (get_or p j (section 0 0)) ++ pair_lines (drop (j + 1) (take m p))
-  unfolding pair_lines
-  pairs_ahead h = ap pair_lines (ahead p m j hm (section 0 0) h)
+module _ (p : List Piece) (j : ℕ) where
+  pub pairs_ahead : j < length p
+      → pair_lines (seen (drop j p))
+      ≡ pair_line (section_in (get_or p j no_piece)) ++ pair_lines (seen (drop (j + 1) p))
+  unfolding pair_lines seen
+  pairs_ahead h = rw (add-one j, drop-cons p j no_piece h)
 
-  pub pairs_behind : m ≤ j → pair_lines (drop j (take m p)) ≡ []
-  unfolding pair_lines
-  pairs_behind h = ap pair_lines (behind p m j hm h)
+  pub pairs_behind : length p ≤ j → pair_lines (seen (drop j p)) ≡ []
+  unfolding pair_lines seen
+  pairs_behind h = rw (drop_of_length-le p {i = j} h)
 
-module _ (p : List Entry) (m i : ℕ) (hm : m ≤ length p) where
-  pub files_ahead : i < m
-      → all_file_lines (map file_of (drop i (take m p)))
-      ≡ file_lines (file_of (get_or p i no_entry)) ++ all_file_lines (map file_of (drop (i + 1) (take m p)))
+module _ (p : List Entry) (i : ℕ) where
+  pub files_ahead : i < length p
+      → all_file_lines (map file_of (drop i p))
+      ≡ file_lines (file_of (get_or p i no_entry)) ++ all_file_lines (map file_of (drop (i + 1) p))
   unfolding all_file_lines
-  files_ahead h = ap (λ l. all_file_lines (map file_of l)) (ahead p m i hm no_entry h)
+  files_ahead h = rw (add-one i, drop-cons p i no_entry h)
 
-  pub files_behind : m ≤ i → all_file_lines (map file_of (drop i (take m p))) ≡ []
+  pub files_behind : length p ≤ i → all_file_lines (map file_of (drop i p)) ≡ []
   unfolding all_file_lines
-  files_behind h = ap (λ l. all_file_lines (map file_of l)) (behind p m i hm h)
+  files_behind h = rw (drop_of_length-le p {i = i} h)

@@ -1,10 +1,13 @@
 -- What a sound table gives: files that fit the disk, and room for the text. Assumes nothing.
 use Rattle.piece.specs.Packed.{seen}
-use mathlib.Core.List.{List, [], ◌∷◌}
-use Prim.Native.Nat.{◌≤◌, suc, zero, ℕ}
+use Rattle.piece.proofs.Seen.{seen-take}
+use mathlib.Core.List.{List}
+use mathlib.Core.Path.{◌≡◌, sym}
+use Prim.Native.Nat.{◌≤◌, ℕ}
 use native.Mathlib.Omega.{arith}
 use lib.ListN.{length, take}
 use Rattle.piece_lists.specs.Few.{list_of, piece_places}
+use Rattle.std.proofs.lemmas.List.{length-take}
 use Rattle.section.specs.Limits.{height_count}
 use Rattle.layout.proofs.Lists.{each_imp, each_map}
 use Rattle.layout.specs.Layout.{File, file_blocks}
@@ -20,10 +23,10 @@ use Rattle.printing.proofs.TextRoom.{text_length}
 use Rattle.texts.specs.Lines.{Room}
 use Rattle.printing.specs.Texts.{text_room}
 
-take_most : {A : Type 0} (n : ℕ) (l : List A) → length (take n l) ≤ n
-take_most zero l = omega arith
-take_most (suc n) [] = omega arith
-take_most (suc n) (a ∷ l) = omega (arith, take_most n l)
+-- the free pieces as sections
+pub free-seen : (t : Table) → seen (take t.free.count t.free.items) ≡ free_of t.free
+unfolding free_of
+free-seen t = sym (seen-take t.free.count t.free.items)
 
 module _ (t : Table) (z : Sized t) (s : Sound height_count (layout_of t)) where
   pub files-fit : sum_of file_blocks (files_of t) ≤ t.blocks
@@ -34,12 +37,12 @@ module _ (t : Table) (z : Sized t) (s : Sound height_count (layout_of t)) where
   unfolding files_of list_of
   few_pieces =
       each_map file_of
-      (each_imp (λ (a : Entry) h. omega (arith, take_most a.pieces.count (seen a.pieces.items)))
+      (each_imp (λ (a : Entry) h. omega (arith, length-take a.pieces.count (seen a.pieces.items)))
       (each_take t.count z.each))
 
   few_free : length (free_of t.free) ≤ free_places
   unfolding free_of
-  few_free = omega (arith, take_most t.free.count (seen t.free.items))
+  few_free = omega (arith, length-take t.free.count (seen t.free.items))
 
   pub table-room : (o : List ℕ) → text_room ≤ length o → Room 0 (layout_text (layout_of t)) o
   unfolding layout_of

@@ -1,7 +1,8 @@
--- How much room the text of a catalogue needs. Definitions only.
-use Rattle.std.specs.Prelude.{ℕ, ◌*◌}
-use Rattle.section.specs.Limits.{most_files}
-use Rattle.pieces.specs.Pieces.{most_of_file}
+-- How much room the text of a catalogue needs, and the blocks that its first line counts. Definitions only.
+use Rattle.std.specs.Prelude.{ℕ}
+use Rattle.layout.specs.Layout.{file_blocks}
+use Rattle.table.specs.Tables.{file_of}
+use Rattle.table.specs.declared.Entry.{Entry}
 
 -- the bytes of a buffer that surely hold the text of a catalogue
 abbrev pub text_room : ℕ
@@ -11,6 +12,6 @@ text_room = 32768
 abbrev pub refusal_room : ℕ
 refusal_room = 19
 
--- the most blocks that the files of a table can have
-abbrev pub most_of_files : ℕ
-most_of_files = most_files * most_of_file
+-- the blocks of a file
+abbrev pub entry_blocks : Entry → ℕ
+entry_blocks e = file_blocks (file_of e)

@@ -1,30 +1,23 @@
 // Files: their blocks, and their lines.
-ghost use Rattle.std.specs.Prelude.{◌≤◌};
-ghost use Rattle.layout.specs.Lists.{sum_of};
+ghost use Rattle.std.specs.Prelude.{map, ◌≡◌, ◌<◌, ◌≤◌, ◌^◌, All, sum_by};
+ghost use Rattle.layout.specs.Lists.{Each, sum_of};
 ghost use Rattle.layout.specs.Layout.{file_blocks};
 ghost use Rattle.manager.specs.Printing.{file_lines, all_file_lines, first_line};
 ghost use Rattle.table.specs.Tables.{file_of, files_of, layout_of};
-ghost use Rattle.pieces.specs.Pieces.{IsSum, LowEntry, LowFiles};
+ghost use Rattle.pieces.specs.Pieces.{LowEntry, LowFiles};
 ghost use Rattle.texts.specs.Lines.{Room, Appends};
-ghost use Rattle.printing.specs.Texts.{most_of_files};
+ghost use Rattle.printing.specs.Texts.{entry_blocks};
 
 use crate::pairs;
 use table::{Entry, Table};
 
 // The blocks of all files.
-pub fn blocks_of_files(t: Table) -> u32
-    requires low { LowFiles t }
-    ensures { IsSum (sum_of file_blocks (files_of t)) most_of_files result }
+pub fn blocks_of_files(files: &[Entry]) -> u32
+    requires low { All LowEntry files.now }
+    requires fits { sum_by entry_blocks files.now < 2 ^ 32 }
+    ensures { result ≡ sum_by entry_blocks files.now }
 {
-    let m = t.count;
-    let files = t.files;
-    let mut sum: u32 = 0;
-    let mut i: usize = 0;
-    while i < m {
-        sum += pieces::blocks_of(files[i]);
-        i += 1;
-    }
-    sum
+    files.iter().map(|e| pieces::blocks_of(*e)).sum()
 }
 
 // Writes a file line and the file's pairs.
@@ -36,22 +29,18 @@ pub fn write_file(out: &mut [u8], at: usize, e: Entry) -> usize
     let n = pieces::blocks_of(e);
     let list = pieces::sorted(e);
     let next = texts::write_line(out, at, b"file ", e.id, b" blocks ", n);
-    pairs::write_pairs(out, next, list)
+    pairs::write_pairs(out, next, list.as_slice())
 }
 
 // Writes every file.
-pub fn write_files(out: &mut [u8], at: usize, t: Table) -> usize
-    requires low { LowFiles t }
-    requires room { Room at (all_file_lines (files_of t)) out.old }
-    ensures { Appends at (all_file_lines (files_of t)) out.old out.new result }
+pub fn write_files(out: &mut [u8], at: usize, files: &[Entry]) -> usize
+    requires low { Each LowEntry files.now }
+    requires room { Room at (all_file_lines (map file_of files.now)) out.old }
+    ensures { Appends at (all_file_lines (map file_of files.now)) out.old out.new result }
 {
-    let m = t.count;
-    let files = t.files;
     let mut next = at;
-    let mut i: usize = 0;
-    while i < m {
-        next = write_file(out, next, files[i]);
-        i += 1;
+    for entry in files {
+        next = write_file(out, next, *entry);
     }
     next
 }
@@ -63,6 +52,6 @@ pub fn write_first_line(out: &mut [u8], at: usize, t: Table) -> usize
     requires room { Room at (first_line (layout_of t)) out.old }
     ensures { Appends at (first_line (layout_of t)) out.old out.new result }
 {
-    let free = t.blocks - blocks_of_files(t);
+    let free = t.blocks - blocks_of_files(&t.files[..t.count]);
     texts::write_line(out, at, b"blocks ", t.blocks, b" free ", free)
 }

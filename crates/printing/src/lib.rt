@@ -7,10 +7,12 @@ ghost use Rattle.std.specs.Prelude.{◌≤◌, length};
 ghost use Rattle.section.specs.Limits.{height_count};
 ghost use Rattle.layout.specs.Sound.{Sound};
 ghost use Rattle.manager.specs.Printing.{layout_text, refusal_text};
+ghost use Rattle.answers.specs.Answers.{number_of};
 ghost use Rattle.table.specs.Tables.{Sized, layout_of};
 ghost use Rattle.texts.specs.Lines.{Prints};
 ghost use Rattle.printing.specs.Texts.{text_room, refusal_room};
 
+use answers::Refusal;
 use table::Table;
 
 mod files;
@@ -24,18 +26,17 @@ pub fn print_table(t: Table, out: &mut [u8]) -> usize
     ensures { Prints (layout_text (layout_of t)) out.new result }
 {
     let a = files::write_first_line(out, 0, t);
-    let b = files::write_files(out, a, t);
+    let b = files::write_files(out, a, &t.files[..t.count]);
     let c = texts::write_bytes(out, b, b"free\n");
-    let free = t.free;
-    pairs::write_pairs(out, c, free.few())
+    pairs::write_pairs(out, c, &t.free.items[..t.free.count])
 }
 
 // Writes the text of a refusal.
-pub fn print_refusal(number: u32, out: &mut [u8]) -> usize
+pub fn print_refusal(refusal: Refusal, out: &mut [u8]) -> usize
     requires { refusal_room ≤ length out.old }
-    ensures { Prints (refusal_text number) out.new result }
+    ensures { Prints (refusal_text (number_of refusal)) out.new result }
 {
     let a = texts::write_bytes(out, 0, b"refused ");
-    let b = texts::write_decimal(out, a, number);
+    let b = texts::write_decimal(out, a, refusal.number());
     texts::write_bytes(out, b, b"\n")
 }

@@ -1,24 +1,27 @@
 -- `write_first_line` is the line of the disk's blocks and the free ones: the blocks less those of the files.
 -- Assumes nothing.
-use mathlib.Core.Path.{ap}
-use Prim.Native.Nat.{◌-◌}
-use Rattle.table.specs.Tables.{layout_of}
-use Rattle.printing.proofs.FileLines.{first_line_lem}
+use native.Mathlib.Omega.{arith}
+use lib.ListN.{take}
+use Rattle.piece_lists.proofs.EachItem.{each_get}
+use Rattle.table.specs.Tables.{files_of}
+use Rattle.printing.proofs.FileLines.{files_blocks, free_line}
 use Rattle.texts.proofs.Writing.{appends_same, room_same}
 use Rattle.printing.proofs.files.write_first_line.Goals as goal
 
+pub blocks_of_files-requires : goal.blocks_of_files-requires
+unfolding files_of
+blocks_of_files-requires c = record {
+  low = λ i e h. each_get i e c.requires.low.each h;
+  fits = omega (arith, files_blocks (take c.args.t.count c.args.t.files));
+}
+
+pub overflow_sub-free : goal.overflow_sub-free
+unfolding files_of
+overflow_sub-free c = omega (arith, files_blocks (take c.args.t.count c.args.t.files))
+
 pub write_line-requires : goal.write_line-requires
-unfolding layout_of
 write_line-requires c =
-    let t = c.args.t in
-    let r = c.blocks_of_files in
-    let l = first_line_lem (layout_of t) (t.blocks - r.result) (ap (λ k. t.blocks - k) r.ensures.equal) in
-    room_same l c.requires.room
+    room_same (free_line c.args.t c.blocks_of_files.result c.blocks_of_files.ensures) c.requires.room
 
 pub returns : goal.returns
-unfolding layout_of
-returns c =
-    let t = c.args.t in
-    let r = c.blocks_of_files in
-    let l = first_line_lem (layout_of t) (t.blocks - r.result) (ap (λ k. t.blocks - k) r.ensures.equal) in
-    appends_same l c.write_line.ensures
+returns c = appends_same (free_line c.args.t c.blocks_of_files.result c.blocks_of_files.ensures) c.write_line.ensures

@@ -1,6 +1,7 @@
 -- The text for an input, by its length and by what was loaded from it; one byte more than a catalogue has is
 -- enough of it. Assumes nothing.
-use mathlib.Core.Bool.{false, not, true}
+use Rattle.std.proofs.Common.{Option, Some}
+use mathlib.Core.Bool.{false, true}
 use mathlib.Core.List.{List}
 use mathlib.Core.Logic.{inl, inr}
 use mathlib.Core.Path.{◌∙◌, ◌≡◌, ap, subst, sym}
@@ -8,7 +9,7 @@ use Prim.Native.Nat.{◌<◌, ℕ}
 use native.Mathlib.Omega.{arith}
 use lib.ListN.{length, take}
 use lib.Seq.{length-take-le, take_all}
-use borrow.Author.Tests.{eq-eqb, ne_eqb, not-false, not-true}
+use borrow.Author.Tests.{eq-eqb, ne_eqb}
 use Rattle.catalogue.proofs.Reading.{read_sound}
 use Rattle.catalogue.proofs.Roomy.{roomy, served, version_of-one}
 use Rattle.catalogue.specs.Reading.{read_catalogue}
@@ -16,13 +17,12 @@ use Rattle.catalogue.specs.Version.{OneOf, version2, version_of, versions}
 use Rattle.layout.proofs.SoundHeights.{sound_higher}
 use Rattle.section.specs.Limits.{height_count}
 use Rattle.catalogue.specs.declared.Version.{Version}
-use Rattle.decoder.proofs.Judging.{reading_none, reading_sound}
 use Rattle.decoder.specs.Loading.{reading_of}
-use Rattle.decoder.specs.declared.Loaded.{Loaded}
 use Rattle.layout.specs.Sound.{Sound}
-use Rattle.manager.specs.Printing.{layout_text, printed, printed_in, reading_text, refusal_text}
+use Rattle.manager.specs.Printing.{printed, printed_in, reading_text, refusal_text}
 use Rattle.section.proofs.Multiples.{below_or_not}
 use Rattle.table.specs.Tables.{layout_of}
+use Rattle.table.specs.declared.Table.{Table}
 
 module _ (v : Version) (input : List ℕ) where
   -- an input of another length
@@ -54,29 +54,22 @@ text_of_start input k lt =
       | inr all ↦ ap printed (take_all k input all)
     ]
 
-module _ (input : List ℕ) (v : Version) (same : v ≡ version_of input) (l : Loaded)
-    (rd : reading_of l ≡ read_catalogue v input) where
+module _ (input : List ℕ) (v : Version) (same : v ≡ version_of input) where
   known : OneOf v versions
   known = subst (λ u. OneOf u versions) (sym same) (version_of-one (length input))
 
   -- a table that was loaded is sound
-  pub table_sound : not l.sound ≡ false → Sound height_count (layout_of l.table)
-  table_sound e =
-      sound_higher v.heights height_count (layout_of l.table) (served known).most_heights
-      (read_sound v (roomy known) input (layout_of l.table) (sym rd ∙ reading_sound l (not-false l.sound e)))
+  pub table_sound : (t : Table) → reading_of (Some t) ≡ read_catalogue v input → Sound height_count (layout_of t)
+  unfolding reading_of
+  table_sound t rd =
+      sound_higher v.heights height_count (layout_of t) (served known).most_heights
+      (read_sound v (roomy known) input (layout_of t) (sym rd))
 
-  in_version : printed input ≡ printed_in v input
-  in_version = ap (λ u. printed_in u input) (sym same)
-
-  module _ (lc : length input ≡ v.bytes) where
-    pub text_loaded : not l.sound ≡ false → printed input ≡ layout_text (layout_of l.table)
-    text_loaded e =
-        in_version
-        ∙ (text_read v input lc ∙ ap reading_text (sym rd ∙ reading_sound l (not-false l.sound e)))
-
-    pub text_unsound : not l.sound ≡ true → printed input ≡ refusal_text 3
-    text_unsound e =
-        in_version ∙ (text_read v input lc ∙ ap reading_text (sym rd ∙ reading_none l (not-true l.sound e)))
+  -- and its text, or that of a refusal, is the text for the input
+  pub text_loaded : (l : Option Table) → reading_of l ≡ read_catalogue v input → length input ≡ v.bytes
+      → printed input ≡ reading_text (reading_of l)
+  text_loaded l rd lc =
+      ap (λ u. printed_in u input) (sym same) ∙ (text_read v input lc ∙ ap reading_text (sym rd))
 
 -- an input of a length that is no version's
 pub text_other : (input : List ℕ) (v : Version) → v ≡ version_of input → (length input ≡ v.bytes → ⊥)

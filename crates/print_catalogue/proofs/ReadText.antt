@@ -1,5 +1,6 @@
 -- The text for what was read, up to one byte more than any catalogue has, is that of the whole input. Assumes nothing.
-use Rattle.std.proofs.Common.{◌≡◌, ℕ, ◌+◌, ◌<◌, ◌≤◌, List, [], ◌++◌, length, take, None, Some, Ok, Err, IfSome, OnOk, Option, Result, arith, sym, ap, subst, ◌∙◌, append-nil, length-take-le}
+use Rattle.std.proofs.Common.{◌≡◌, ℕ, ◌+◌, ◌<◌, ◌≤◌, List, [], ◌++◌, length, take, append-nil, length-take-le}
+use Rattle.std.proofs.Common.{None, Some, Ok, Err, IfSome, OnOk, Option, Result, arith, sym, ap, subst, ◌∙◌}
 use Rattle.std.proofs.Math.Nat.{eq-or-lt_of_le}
 use Rattle.std.specs.Io.KnownBytes.{Appends, Consumes, IsAtEnd}
 use mathlib.Core.Logic.{inl, inr}

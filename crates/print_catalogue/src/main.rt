@@ -11,6 +11,7 @@ ghost use Rattle.manager.specs.Printing.{printed};
 ghost use Rattle.texts.specs.Lines.{Prints};
 ghost use Rattle.printing.specs.Texts.{text_room};
 
+use answers::Refusal;
 use catalogue::Version;
 use section::Section;
 use std::io;
@@ -38,13 +39,11 @@ fn print_input(input: &[u8], out: &mut [u8]) -> usize
 {
     let version = Version::of_length(input.len());
     if input.len() != version.bytes {
-        return printing::print_refusal(1, out);
+        return printing::print_refusal(Refusal::CatalogueLength, out);
     }
-    let l = decoder::load(input, version);
-    if !l.sound {
-        return printing::print_refusal(3, out);
-    }
-    let table = l.table;
+    let Some(table) = decoder::load(input, version) else {
+        return printing::print_refusal(Refusal::NotSound, out);
+    };
     printing::print_table(table, out)
 }
 

@@ -1,9 +1,10 @@
 -- `print_input` writes the text of the definition: by the input's length, and by what was loaded. Assumes nothing.
-use Rattle.std.proofs.Common.{◌≡◌, ◌∙◌, ℕ, List, arith, subst, sym}
+use Rattle.std.proofs.Common.{◌≡◌, ◌∙◌, ℕ, List, None, Some, arith, subst, sym}
 use Rattle.catalogue.proofs.Roomy.{served, version_of-one}
 use Rattle.catalogue.specs.Version.{Served}
+use Rattle.decoder.specs.Loading.{reading_of}
 use Rattle.texts.specs.Lines.{Prints}
-use Rattle.print_catalogue.proofs.InputText.{table_sound, text_loaded, text_other, text_unsound}
+use Rattle.print_catalogue.proofs.InputText.{table_sound, text_loaded, text_other}
 use Rattle.print_catalogue.proofs.print_input.Goals as goal
 
 -- the same text by another name
@@ -17,26 +18,28 @@ returns-then-input-version c =
     (λ e. omega (arith, e, c.if-input-version.true)))
     c.print_refusal.ensures
 
-pub load-l-requires : goal.load-l-requires
-load-l-requires c = (
+pub load-requires : goal.load-requires
+load-requires c = (
   subst Served (sym c.of_length-version.ensures) (served (version_of-one _)),
   omega (arith, c.if-input-version.false),
 )
 
-pub returns-then-not-l : goal.returns-then-not-l
-returns-then-not-l c =
+pub returns-in_default : goal.returns-in_default
+unfolding reading_of
+returns-in_default c =
     prints-as
-    (text_unsound c.args.input.now _ c.of_length-version.ensures c.load-l.result c.load-l.ensures.reading
-    c.if-input-version.false c.if-not-l.true)
-    c.print_refusal-then-not-l.ensures
+    (text_loaded c.args.input.now _ c.of_length-version.ensures None c.in_default.ensures.reading
+    c.if-input-version.false)
+    c.print_refusal-in_default.ensures
 
 pub print_table-requires-clause-sound : goal.print_table-requires-clause-sound
 print_table-requires-clause-sound c =
-    table_sound c.args.input.now _ c.of_length-version.ensures c.load-l.result c.load-l.ensures.reading c.if-not-l.false
+    table_sound c.args.input.now _ c.of_length-version.ensures _ c.in-Some.ensures.reading
 
 pub returns : goal.returns
+unfolding reading_of
 returns c =
     prints-as
-    (text_loaded c.args.input.now _ c.of_length-version.ensures c.load-l.result c.load-l.ensures.reading
-    c.if-input-version.false c.if-not-l.false)
+    (text_loaded c.args.input.now _ c.of_length-version.ensures (Some c.in-Some.table) c.in-Some.ensures.reading
+    c.if-input-version.false)
     c.print_table.ensures

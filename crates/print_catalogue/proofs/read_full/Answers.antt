@@ -1,5 +1,6 @@
 -- `read_full` keeps what was read before, and appends what the next read gave.
-use Rattle.std.proofs.Common.{◌≡◌, ℕ, ◌+◌, ◌-◌, ◌≤◌, List, ◌++◌, rules, arith, length, take, slice_range, sym, ap, ◌∙◌, subst, le_refl, drop_at, length-take-le}
+use Rattle.std.proofs.Common.{◌≡◌, ℕ, ◌+◌, ◌-◌, ◌≤◌, List, ◌++◌, length, take, slice_range}
+use Rattle.std.proofs.Common.{rules, arith, sym, ap, ◌∙◌, subst, le_refl, drop_at, length-take-le}
 use Rattle.std.proofs.lemmas.Slice.{take-put_mid_below}
 use Rattle.std.specs.Io.KnownBytes.{Consumes}
 use Rattle.std.proofs.KnownBytes.{Consumes-trans}
@@ -7,7 +8,8 @@ use borrow.Rule.Slice.PartMut.{put_mid, post_of}
 use lib.Seq.{take-add, take-append-le}
 use Rattle.print_catalogue.proofs.read_full.Goals as goal
 
-take_split : (a b : ℕ) (old new : List ℕ) → a ≤ b → take a new ≡ take a old → take a old ++ slice_range new a b ≡ take b new
+take_split : (a b : ℕ) (old new : List ℕ) → a ≤ b → take a new ≡ take a old
+    → take a old ++ slice_range new a b ≡ take b new
 take_split a b old new h front =
     let same : a + (b - a) ≡ b = omega arith in
     ap (λ l. l ++ slice_range new a b) (sym front) ∙ sym (take-add a (b - a) new) ∙ ap (λ n. take n new) same
@@ -26,9 +28,11 @@ loop-done-preserved g c =
     let from = c.loop-done.done in
     let room = length c.loop-done.room - from in
     let within = c.loop-done.invariant.0 in
-    let part = slice_range-put_mid from room c.in_ok-n.n c.loop-done.room c.read.new.buf within c.in_ok-n.ensures.bound.0 in
+    let fits = c.in_ok-n.ensures.bound.0 in
+    let part = slice_range-put_mid from room c.in_ok-n.n c.loop-done.room c.read.new.buf within fits in
+    let below = take-put_mid_below _ _ _ _ _ (le_refl _) within in
     let joined = take_split from (from + c.in_ok-n.n) c.loop-done.room
-    (put_mid from room c.loop-done.room c.read.new.buf) (omega arith) (take-put_mid_below _ _ _ _ _ (le_refl _) within) in (
+    (put_mid from room c.loop-done.room c.read.new.buf) (omega arith) below in (
       search rules,
       subst (Consumes _ _) (ap (λ l. take from c.loop-done.room ++ l) (sym part) ∙ joined)
           (Consumes-trans _ _ _ _ _ c.loop-done.invariant.1 c.in_ok-n.ensures.bytes.0),

@@ -5,9 +5,9 @@ use mathlib.Core.Path.{◌∙◌, ◌≡◌, ap, ap₂, refl, sym}
 use Prim.Native.Nat.{◌+◌, ◌<◌, ◌≤◌, ℕ}
 use native.Mathlib.Omega.{arith}
 use lib.Count.{ones}
-use lib.ListN.{drop, length, length-drop}
+use lib.ListN.{drop, length, length-drop, take}
 use Rattle.catalogue.specs.Version.{short_field}
-use Rattle.decoder.proofs.Places.{field_long, field_short}
+use Rattle.decoder.proofs.Places.{field_long, field_short, number}
 use borrow.Author.Tests.{eq-eqb, le-leb, lt-leb, ne_eqb}
 use Rattle.catalogue.specs.Reading.{Read, bad, file_read, got, read_entry, read_field, read_pairs, then}
 use Rattle.section.proofs.Multiples.{below_or_not}
@@ -36,11 +36,10 @@ entry-of-few w l h = go (below_or_not (length l) 2)
         λ i r. then (read_field w r) λ n r'. then (read_pairs (ones n) w r') λ l r''. file_read i n l r'')
         (field_short 2 0 l p)
     go (inr p) =
-        let x = field_long 2 0 l p in
         ap (λ z. then z
         λ i r. then (read_field w r) λ n r'. then (read_pairs (ones n) w r') λ l r''. file_read i n l r'')
-        x.1
-        ∙ ap (λ z. then z λ n r'. then (read_pairs (ones n) w r') λ l r''. file_read x.0 n l r'')
+        (field_long 2 0 l p)
+        ∙ ap (λ z. then z λ n r'. then (read_pairs (ones n) w r') λ k r''. file_read (number 0 (take 2 l)) n k r'')
         (field_short w 0 (drop 2 l) (omega (arith, length-drop 2 l)))
 
 entry_at : (w : ℕ) (s : List ℕ) (i n : ℕ) (x : Read (List Section)) → FieldAt short_field s 0 i

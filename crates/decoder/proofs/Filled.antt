@@ -1,7 +1,7 @@
 -- The array of files, filled entry by entry. Assumes nothing.
 use mathlib.Core.List.{List}
 use mathlib.Core.Path.{◌∙◌, ◌≡◌, ap, ap₂, refl, sym}
-use Prim.Native.Nat.{◌*◌, ◌+◌, ◌-◌, ◌<◌, ◌≤◌, ℕ}
+use Prim.Native.Nat.{◌*◌, ◌+◌, ◌-◌, ◌<◌, ◌≤◌, suc, zero, ℕ}
 use native.Mathlib.Omega.{arith}
 use lib.ListN.{drop, length, length-set, set, take}
 use Rattle.catalogue.specs.Reading.{bad, got, read_entry}
@@ -15,8 +15,8 @@ use Rattle.piece_lists.specs.Few.{piece_places}
 use Rattle.decoder.specs.declared.EntryRead.{EntryRead}
 use Rattle.piece_lists.proofs.EachItem.{each_set}
 use Rattle.layout.specs.Layout.{file_blocks}
-use Rattle.layout.specs.Lists.{Each, sum_of}
-use Rattle.section.specs.Limits.{greatest_disk, most_files}
+use Rattle.layout.specs.Lists.{Each, done, more, sum_of}
+use Rattle.section.specs.Limits.{greatest_disk}
 use Rattle.table.specs.Tables.{InPlaces}
 use Rattle.table.specs.declared.Entry.{Entry}
 
@@ -27,11 +27,21 @@ pub record FilesAt (w : ℕ) (s : List ℕ) (n : ℕ) (files : List Entry) (at s
   pub pages : sum ≡ sum_of file_blocks (files_to i files)
   pub most : sum ≤ greatest_disk * piece_places * i
   pub each : Each InPlaces files
-  pub exact : length files ≡ most_files
+  pub exact : length files ≡ n
   pub inside : at ≤ length s
 
-pub filled_start : (w : ℕ) (s : List ℕ) (n : ℕ) (files : List Entry) → header_size w ≤ length s → length files
-    ≡ most_files
+-- the n entries are the files after the header, and what follows them starts at a place
+pub record FilesRead (w : ℕ) (s : List ℕ) (n : ℕ) (files : List Entry) (at sum : ℕ) : Type 0 where
+  pub meaning : all_accepted (EntriesLeft w n (drop (header_size w) s)) ≡ got (files_to n files) (drop at s)
+  pub pages : sum ≡ sum_of file_blocks (files_to n files)
+
+-- the entries of an array from a place on
+pub each_drop : (n : ℕ) {l : List Entry} → Each InPlaces l → Each InPlaces (drop n l)
+each_drop zero e = e
+each_drop (suc n) done = done
+each_drop (suc n) (more p e) = each_drop n e
+
+pub filled_start : (w : ℕ) (s : List ℕ) (n : ℕ) (files : List Entry) → header_size w ≤ length s → length files ≡ n
     → Each InPlaces files
     → FilesAt w s n files (header_size w) 0 0
 filled_start w s n files l x p =
@@ -50,7 +60,7 @@ module _ (w : ℕ) (s : List ℕ) (n : ℕ) (files : List Entry) (at sum i : ℕ
       → all_accepted (EntriesLeft w n (drop (header_size w) s)) ≡ bad
   filled_bad h e = sym f.meaning ∙ files_bad w s n at i files h e
 
-  module _ (h : i < n) (few : n ≤ most_files) (e : EntryRead)
+  module _ (h : i < n) (e : EntryRead)
       (q : SomeEntryAt w (take (length s - at) (drop at s)) e) where
     pub filled_inside : at + e.size ≤ length s
     filled_inside = entry_inside w s n at i files h e q f.inside
@@ -70,9 +80,14 @@ module _ (w : ℕ) (s : List ℕ) (n : ℕ) (files : List Entry) (at sum i : ℕ
           inside = filled_inside;
         }
 
-  pub filled-end : i ≡ n → all_accepted (EntriesLeft w n (drop (header_size w) s)) ≡ got (files_to n files) (drop at s)
-  filled-end e =
-      sym f.meaning ∙ (ap (λ i. FilesLeft w s n at i files) e ∙ files-end w s n at files)
+  module _ (h : n ≤ i) where
+    all : i ≡ n
+    all = omega (arith, f.few)
 
-  pub filled-sum : i ≡ n → sum ≡ sum_of file_blocks (files_to n files)
-  filled-sum e = f.pages ∙ ap (λ i. sum_of file_blocks (files_to i files)) e
+    pub filled_all : FilesRead w s n files at sum
+    filled_all =
+        let e : files_to i files ≡ files_to n files = ap (λ k. files_to k files) all in
+        record {
+          meaning = sym f.meaning ∙ (ap (λ k. FilesLeft w s n at k files) all ∙ files-end w s n at files);
+          pages = f.pages ∙ ap (sum_of file_blocks) e;
+        }

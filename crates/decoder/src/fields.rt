@@ -10,18 +10,12 @@ use piece::Piece;
 use piece_lists::Pieces;
 use section::{Height, Section};
 
-fn wide(x: u8) -> u32
-    ensures { (result ≡ x) × (result < 256) }
-{
-    x as u32
-}
-
 // The field of 2 bytes at a place.
 fn read_short(s: &[u8], at: usize) -> u32
     requires { at + short_field ≤ length s.now }
     ensures { FieldAt short_field s.now at result }
 {
-    wide(s[at]) * 256 + wide(s[at + 1])
+    u16::from_be_bytes([s[at], s[at + 1]]) as u32
 }
 
 // The field of `width` bytes at a place. One of 2 bytes, as most are, is read without a loop.
@@ -32,11 +26,9 @@ pub fn read_field(s: &[u8], at: usize, width: usize) -> u32
     if width == Version::SHORT_FIELD {
         return read_short(s, at);
     }
-    let mut value: u32 = 0;
-    let mut i: usize = 0;
-    while i < width {
-        value = value * 256 + wide(s[at + i]);
-        i += 1;
+    let mut value = 0;
+    for byte in &s[at..at + width] {
+        value = value * 256 + *byte as u32;
     }
     value
 }
@@ -66,15 +58,13 @@ pub fn read_pairs(s: &[u8], at: usize, count: usize, width: usize) -> Option<Pai
 {
     let none = Piece { word: 0 };
     let mut items = [none; Pieces::PLACES];
-    let mut sum: u32 = 0;
+    let mut sum = 0;
     let mut end = at;
-    let mut i: usize = 0;
-    while i < count {
+    for item in &mut items[..count] {
         let pair = read_pair(s, end, width)?;
-        items[i] = pair.piece;
+        *item = pair.piece;
         sum += pair.length;
         end += 2 * width;
-        i += 1;
     }
     Some(PairsRead {
         sum,

@@ -43,7 +43,7 @@ fn left_free(blocks: u32, sum: u32) -> u32
 }
 
 // The table after the header: the entries, each read from its own part of the catalogue, and the free pairs, which are
-// few in a sound layout. One function fills the array and makes the table, since an array that is passed on is copied.
+// few in a sound layout.
 fn read_body(cat: &[u8], version: Version, blocks: u32, count: usize) -> Option<TableRead>
     requires { Served version × (length cat.now ≡ version.bytes) × HeaderAt version cat.now blocks count }
     ensures { TableAt version cat.now result }
@@ -51,15 +51,13 @@ fn read_body(cat: &[u8], version: Version, blocks: u32, count: usize) -> Option<
     let blank = no_entry(0);
     let mut files = [blank; Section::MOST_FILES];
     let width = version.width;
-    let mut at: usize = Version::SHORT_FIELD + width + Version::SHORT_FIELD;
-    let mut sum: u32 = 0;
-    let mut i: usize = 0;
-    while i < count {
+    let mut at = Version::SHORT_FIELD + width + Version::SHORT_FIELD;
+    let mut sum = 0;
+    for file in &mut files[..count] {
         let read = read_entry(&cat[at..], width)?;
-        files[i] = read.entry;
+        *file = read.entry;
         at += read.size;
         sum += read.n;
-        i += 1;
     }
     let ones = u32::count_ones(left_free(blocks, sum)) as usize;
     if Pieces::PLACES < ones {

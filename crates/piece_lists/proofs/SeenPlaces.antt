@@ -1,12 +1,13 @@
 -- Lists of words seen as lists of sections: one more at a place, one fewer, and an item that was read. Assumes nothing.
-use mathlib.Core.List.{List, ◌++◌, ◌∷◌}
+use mathlib.Core.List.{List, [], ◌++◌, ◌∷◌}
 use mathlib.Core.Path.{◌∙◌, ◌≡◌, ap, ap₂, subst, sym}
-use Prim.Native.Nat.{◌<◌, ◌≤◌, suc, ℕ}
+use Prim.Native.Nat.{◌<◌, ◌≤◌, suc, zero, ℕ}
 use native.Mathlib.Omega.{arith}
 use lib.ListN.{drop, get_or, length, take}
+use Rattle.std.specs.Prelude.{All}
 use Rattle.section.specs.Sections.{section}
 use Rattle.section.specs.declared.Section.{Section}
-use Rattle.layout.specs.Lists.{Each}
+use Rattle.layout.specs.Lists.{Each, more}
 use Rattle.piece.proofs.Seen.{seen-append, seen-cons, seen-drop, seen_get, seen-length, seen-take}
 use Rattle.piece.specs.Packed.{no_piece, section_in, seen}
 use Rattle.piece.specs.declared.Piece.{Piece}
@@ -30,3 +31,10 @@ pub each_read : {P : Section → Type 0} (l : List Piece) (m i : ℕ) (r : Secti
 each_read {P = P} l m i r h e lt q =
     subst P (seen_get l i ∙ sym q)
     (each_taken {P = P} (seen l) m i (section 0 0) (omega (arith, seen-length l)) e lt)
+
+-- each of the words, where each of the sections seen has P
+pub all-seen : {P : Section → Type 0} (l : List Piece) → Each P (seen l) → All (λ p. P (section_in p)) l
+unfolding seen
+all-seen [] e k d h = absurd (omega arith)
+all-seen (p ∷ l) (more q e) zero d h = q
+all-seen {P = P} (p ∷ l) (more q e) (suc k) d h = all-seen {P = P} l e k d (omega arith)

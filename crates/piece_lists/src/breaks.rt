@@ -1,10 +1,10 @@
 // The breaks of few pieces in page order.
-ghost use Rattle.std.specs.Prelude.{◌≡◌, ◌≤◌};
+ghost use Rattle.std.specs.Prelude.{◌≡◌, ◌<◌, ◌≤◌, ◌^◌, All};
 ghost use Rattle.section.specs.Sections.{Addressable};
 ghost use Rattle.layout.specs.Layout.{break_between, breaks_of};
 ghost use Rattle.layout.specs.Lists.{Each};
 ghost use Rattle.piece.specs.Packed.{section_in};
-ghost use Rattle.piece_lists.specs.Few.{list_of, piece_places};
+ghost use Rattle.piece_lists.specs.Few.{breaks_between, list_of, piece_places};
 
 use crate::Pieces;
 use piece::Piece;
@@ -14,8 +14,20 @@ fn break_between(before: Piece, next: Piece) -> u32
     requires { Addressable (section_in before) }
     ensures { result ≡ break_between (section_in before) (section_in next) }
 {
-    let s = before.section();
-    if next.first() == s.end() { 0 } else { 1 }
+    u32::from(next.first() != before.section().end())
+}
+
+// The sum of these over each of the pieces and the one after it.
+fn breaks_in(pieces: &[Piece]) -> u32
+    requires each { All (λ p. Addressable (section_in p)) pieces.now }
+    requires fits { breaks_between pieces.now < 2 ^ 32 }
+    ensures { result ≡ breaks_between pieces.now }
+{
+    pieces
+        .iter()
+        .zip(pieces.iter().skip(1))
+        .map(|(before, next)| break_between(*before, *next))
+        .sum()
 }
 
 impl Pieces {
@@ -25,16 +37,6 @@ impl Pieces {
         requires each { Each Addressable (list_of self) }
         ensures { result ≡ breaks_of (list_of self) }
     {
-        let count = self.count;
-        let items = self.items;
-        let mut breaks: u32 = 0;
-        let mut j: usize = 1;
-        while j < count {
-            let before = items[j - 1];
-            let next = items[j];
-            breaks += break_between(before, next);
-            j += 1;
-        }
-        breaks
+        breaks_in(self.as_slice())
     }
 }

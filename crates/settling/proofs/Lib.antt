@@ -1,5 +1,4 @@
 -- The laws of merging to the end.
 pub mod MadeMerges
 pub mod Settling
-pub mod FreeBeside
 pub mod PlanSteps

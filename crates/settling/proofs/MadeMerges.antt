@@ -1,5 +1,5 @@
 -- Merging to the end by the free pieces alone: what holds when some merges are made. Assumes nothing.
-use mathlib.Core.Bool.{false, true}
+use Rattle.std.specs.Prelude.{None, Option, Some}
 use mathlib.Core.List.{List, [], ◌++◌, ◌∷◌, append_assoc, append-nil}
 use mathlib.Core.Path.{◌∙◌, ◌≡◌, ap, refl, subst, sym}
 use Prim.Native.Nat.{◌*◌, ◌+◌, ◌≤◌, suc, zero, ℕ}
@@ -79,86 +79,86 @@ module _ {c : ℕ} {w₀ : Layout} {n : ℕ} {w : Layout} {free : Free} {made : 
   pub made_in_order : (free.count ≤ free_places) × InOrder (free_of free)
   made_in_order = (g.starts.few, subst InOrder g.starts.list (free_in_order c w g.starts.whole))
 
-  module _ {p : Pair} (ps : Pairs free.count (lowest_pair height_count 0 (free_of free)) p) where
-    -- the pair as that of the layout
-    pub made_pair : Pairs free.count (lowest_pair height_count 0 w.free) p
-    made_pair = subst (λ l. Pairs free.count (lowest_pair height_count 0 l) p) (sym g.starts.list) ps
+  -- the pair as that of the layout
+  pub made_pair : {o : Option Pair} → Pairs free.count (lowest_pair height_count 0 (free_of free)) o
+      → Pairs free.count (lowest_pair height_count 0 w.free) o
+  made_pair {o} ps = subst (λ l. Pairs free.count (lowest_pair height_count 0 l) o) (sym g.starts.list) ps
 
-    -- no height has two any more
-    pub made_all : p.found ≡ false → made ≡ merge_all n height_count w₀
-    made_all f =
-        let none = merge_none free.count w (merge_settled free.count w p made_pair f) in
-        sym (append-nil made) ∙ (ap (λ z. made ++ z) (sym none) ∙ g.all)
+  -- no height has two any more
+  pub made_all : Pairs free.count (lowest_pair height_count 0 (free_of free)) None → made ≡ merge_all n height_count w₀
+  made_all ps =
+      let none = merge_none free.count w (merge_settled free.count w (made_pair ps)) in
+      sym (append-nil made) ∙ (ap (λ z. made ++ z) (sym none) ∙ g.all)
 
-    module _ (f : p.found ≡ true) where
-      pub next_fits : Fits c w p.lower p.upper (free_of p.others)
-      next_fits = due_fits c g.starts.small w g.starts.whole free.count g.starts.few p made_pair f
+  module _ {p : Pair} (ps : Pairs free.count (lowest_pair height_count 0 (free_of free)) (Some p)) where
+    pub next_fits : Fits c w p.lower p.upper (free_of p.others)
+    next_fits = due_fits c g.starts.small w g.starts.whole free.count g.starts.few p (made_pair ps)
 
-      -- what moving the other free pieces asks for
-      pub next_movable : CanMove (buddy_of p.lower) p.upper (free_of p.others)
-      next_movable =
-          merge_movable c g.starts.small w g.starts.whole free.count g.starts.few p made_pair f
+    -- what moving the other free pieces asks for
+    pub next_movable : CanMove (buddy_of p.lower) p.upper (free_of p.others)
+    next_movable =
+        merge_movable c g.starts.small w g.starts.whole free.count g.starts.few p (made_pair ps)
 
-      -- and what counting the copies asks for
-      pub next_countable : PairFits p
-      next_countable =
-          merge_countable c g.starts.small w g.starts.whole free.count g.starts.few p made_pair f
+    -- and what counting the copies asks for
+    pub next_countable : PairFits p
+    next_countable =
+        merge_countable c g.starts.small w g.starts.whole free.count g.starts.few p (made_pair ps)
 
-      -- the blocks between the free pieces are those that files hold
-      next-copies : (merge_of p w).copies ≡ pair_copies p
-      unfolding merge
-      next-copies = next_fits.copies
+    -- the blocks between the free pieces are those that files hold
+    next-copies : (merge_of p w).copies ≡ pair_copies p
+    unfolding merge
+    next-copies = next_fits.copies
 
-      pub next_most : length (pair_copies p) ≤ greatest_disk
-      next_most = omega (
+    pub next_most : length (pair_copies p) ≤ greatest_disk
+    next_most = omega (
+      arith,
+      ap length next-copies,
+      next_fits.keeps.few,
+      next_fits.lower.within,
+      g.starts.small,
+    )
+
+    -- the copies with those of the next merge
+    pub copies_more : copies_of (made ++ (merge_of p w ∷ [])) ≡ copies_of made ++ pair_copies p
+    copies_more =
+        copies-append made (merge_of p w ∷ [])
+        ∙ ap (λ z. copies_of made ++ z) (copies-one (merge_of p w) ∙ next-copies)
+
+    -- and what holds after it, with k copies made by then
+    pub made_more : (w' : Layout) (r : Free) (k : ℕ) → w' ≡ (merge_of p w).after → w'.free ≡ free_of r
+        → length (free_of r) ≡ r.count → r.count ≡ p.others.count + 1 → k ≡ copied + length (pair_copies p)
+        → MadeMerges c w₀ n w' r (made ++ (merge_of p w ∷ [])) k
+    made_more w' r k after list exact one sum = record {
+      starts = record {
+        whole = subst (Whole c) (sym after) next_fits.keeps.whole;
+        small = g.starts.small;
+        list = list;
+        exact = exact;
+        few = omega (arith, ps.less, one, g.starts.few);
+      };
+      all =
+          append_assoc made (merge_of p w ∷ []) (merge_all r.count height_count w')
+          ∙ (ap (λ z. made ++ z) rest ∙ g.all);
+      layout =
+          after
+          ∙ sym (layout_after_append w₀ made (merge_of p w ∷ [])
+          ∙ (ap (λ z. layout_after z (merge_of p w ∷ [])) (sym g.layout) ∙ last_one w (merge_of p w)));
+      count = omega (arith, sum, g.count, ap length copies_more, length-append (copies_of made) (pair_copies p));
+      bounded = omega (
         arith,
-        ap length next-copies,
-        next_fits.keeps.few,
-        next_fits.lower.within,
-        g.starts.small,
-      )
+        sum,
+        g.bounded,
+        next_most,
+        ap (λ i. greatest_disk * i) fewer_left,
+        mul-suc greatest_disk r.count,
+      );
+    }
+      where
+        fewer_left : free.count ≡ suc r.count
+        fewer_left = omega (arith, one, ps.less)
 
-      -- the copies with those of the next merge
-      pub copies_more : copies_of (made ++ (merge_of p w ∷ [])) ≡ copies_of made ++ pair_copies p
-      copies_more =
-          copies-append made (merge_of p w ∷ [])
-          ∙ ap (λ z. copies_of made ++ z) (copies-one (merge_of p w) ∙ next-copies)
-
-      -- and what holds after it, with k copies made by then
-      pub made_more : (w' : Layout) (r : Free) (k : ℕ) → w' ≡ (merge_of p w).after → w'.free ≡ free_of r
-          → length (free_of r) ≡ r.count → r.count ≡ p.others.count + 1 → k ≡ copied + length (pair_copies p)
-          → MadeMerges c w₀ n w' r (made ++ (merge_of p w ∷ [])) k
-      made_more w' r k after list exact one sum = record {
-        starts = record {
-          whole = subst (Whole c) (sym after) next_fits.keeps.whole;
-          small = g.starts.small;
-          list = list;
-          exact = exact;
-          few = omega (arith, ps.less f, one, g.starts.few);
-        };
-        all =
-            append_assoc made (merge_of p w ∷ []) (merge_all r.count height_count w')
-            ∙ (ap (λ z. made ++ z) rest ∙ g.all);
-        layout =
-            after
-            ∙ sym (layout_after_append w₀ made (merge_of p w ∷ [])
-            ∙ (ap (λ z. layout_after z (merge_of p w ∷ [])) (sym g.layout) ∙ last_one w (merge_of p w)));
-        count = omega (arith, sum, g.count, ap length copies_more, length-append (copies_of made) (pair_copies p));
-        bounded = omega (
-          arith,
-          sum,
-          g.bounded,
-          next_most,
-          ap (λ i. greatest_disk * i) fewer_left,
-          mul-suc greatest_disk r.count,
-        );
-      }
-        where
-          fewer_left : free.count ≡ suc r.count
-          fewer_left = omega (arith, one, ps.less f)
-
-          rest : (merge_of p w ∷ []) ++ merge_all r.count height_count w' ≡ merge_all free.count height_count w
-          rest =
-              sym (ap (λ i. merge_all i height_count w) fewer_left
-              ∙ (merge_more r.count w (merge_of p w) (merge_due free.count w p made_pair f)
-              ∙ ap (λ z. merge_of p w ∷ merge_all r.count height_count z) (sym after)))
+        rest : (merge_of p w ∷ []) ++ merge_all r.count height_count w' ≡ merge_all free.count height_count w
+        rest =
+            sym (ap (λ i. merge_all i height_count w) fewer_left
+            ∙ (merge_more r.count w (merge_of p w) (merge_due free.count w p (made_pair ps))
+            ∙ ap (λ z. merge_of p w ∷ merge_all r.count height_count z) (sym after)))

@@ -1,5 +1,5 @@
 -- Counting the copies of merges to the end by the free pieces alone. Assumes nothing.
-use mathlib.Core.Bool.{false, true}
+use Rattle.std.specs.Prelude.{None, Some}
 use mathlib.Core.List.{List, [], ◌++◌, ◌∷◌}
 use mathlib.Core.Path.{◌∙◌, ◌≡◌, ap, refl, sym}
 use Prim.Native.Nat.{◌+◌, ℕ}
@@ -37,27 +37,28 @@ module _ {free left : Free} {copied : ℕ} (t : Counted free left copied) where
   pub counted-one : Planning t.can.blocks t.can.layout free left copied
   counted-one = t.each t.can.blocks t.can.layout t.can.starts
 
-  module _ {p : Pair} (ps : Pairs left.count (lowest_pair height_count 0 (free_of left)) p) where
-    pub counted_more : p.found ≡ true → (n : ℕ) → n ≡ copied + length (pair_copies p) → (r : Free)
-        → Lists (p.others.count + 1) (free_after p) r → Counted free r n
-    unfolding merge
-    counted_more f n sum r l = record {
-      can = t.can;
-      each = λ c w s.
-          let g = t.each c w s in
-          let now = merge_of p g.layout in
-          record {
-            layout = now.after;
-            made = g.made ++ (now ∷ []);
-            merges =
-                made_more g.merges ps f now.after r n refl (sym l.list)
-                (ap length l.list ∙ (l.exact ∙ sym l.count)) l.count sum;
-          };
-    }
+  pub counted_more : {p : Pair} → Pairs left.count (lowest_pair height_count 0 (free_of left)) (Some p) → (n : ℕ)
+      → n ≡ copied + length (pair_copies p) → (r : Free) → Lists (p.others.count + 1) (free_after p) r
+      → Counted free r n
+  unfolding merge
+  counted_more {p} ps n sum r l = record {
+    can = t.can;
+    each = λ c w s.
+        let g = t.each c w s in
+        let now = merge_of p g.layout in
+        record {
+          layout = now.after;
+          made = g.made ++ (now ∷ []);
+          merges =
+              made_more g.merges ps now.after r n refl (sym l.list)
+              (ap length l.list ∙ (l.exact ∙ sym l.count)) l.count sum;
+        };
+  }
 
-    pub counted-all : p.found ≡ false → Plans free (record { free = left; copied = copied })
-    counted-all f = record {
-      copies = λ c w s.
-          let g = t.each c w s in
-          g.merges.count ∙ ap (λ z. length (copies_of z)) (made_all g.merges ps f);
-    }
+  pub counted-all : Pairs left.count (lowest_pair height_count 0 (free_of left)) None
+      → Plans free (record { free = left; copied = copied })
+  counted-all ps = record {
+    copies = λ c w s.
+        let g = t.each c w s in
+        g.merges.count ∙ ap (λ z. length (copies_of z)) (made_all g.merges ps);
+  }

@@ -1,12 +1,12 @@
-// Merging to the end: merges until no height has two free pieces, with the blocks that files hold copied at the step of
-// their merge and counted, or counted alone.
+// Merging to the end: merges until no height has two free pieces, with the blocks that files hold copied at the step
+// of their merge and counted, or counted alone.
 #![tactic(auto)]
 
 ghost use Rattle.std.specs.Prelude.{length};
 ghost use Rattle.settling.specs.Settling.{CanSettle, Settles};
 
 use free_pieces::Free;
-use table::{Table, free_merged};
+use table::{Table, free_merged, move_files};
 
 mod planning;
 
@@ -26,39 +26,28 @@ pub struct Planned {
     pub copied: u32,
 }
 
-// Merges while a height has two free pieces. The files are moved where they stand, since a table that is passed on is
-// copied. The free pieces stand beside the table until the end for the same reason, and the next pair is asked for in
-// one place, so that the compiler puts the search there.
+// Merges while a height has two free pieces. The files are moved where they stand, and the free pieces stand beside
+// them until the end, so that no turn copies a table.
 pub fn settle(disk: &mut [u8], table: Table) -> Settled
     requires { CanSettle table (length disk.old) }
     ensures { Settles table disk.old disk.new result }
 {
-    let mut t = table;
+    let count = table.count;
+    let mut files = table.files;
+    let mut free = table.free;
     let mut copied: u32 = 0;
-    let mut free = t.free;
-    'merges: loop {
-        let p = free.lowest_pair();
-        if !p.found {
-            break;
-        }
-        let made = blocks::copy_merge(disk, p);
-        copied += made;
-        let lower = p.lower;
-        let upper = p.upper;
-        let buddy = lower.buddy();
-        let m = t.count;
-        let mut i: usize = 0;
-        'files: while i < m {
-            let e = t.files[i];
-            let list = e.pieces;
-            if e.place_inside(buddy) < list.count {
-                let moved = e.moved(buddy, upper);
-                t.files[i] = moved;
-            }
-            i += 1;
-        }
-        free = free_merged(p);
+    'merges: while let Some(pair) = free.lowest_pair() {
+        copied += blocks::copy_merge(disk, pair);
+        move_files(&mut files[..count], pair.lower.buddy(), pair.upper);
+        free = free_merged(pair);
     }
-    t.free = free;
-    Settled { table: t, copied }
+    Settled {
+        table: Table {
+            blocks: table.blocks,
+            count,
+            files,
+            free,
+        },
+        copied,
+    }
 }

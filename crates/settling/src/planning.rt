@@ -13,14 +13,9 @@ pub fn plan(free: Free) -> Planned
 {
     let mut left = free;
     let mut copied: u32 = 0;
-    loop {
-        let p = left.lowest_pair();
-        if !p.found {
-            break;
-        }
-        let count = p.copies();
-        copied += count;
-        left = free_merged(p);
+    'merges: while let Some(pair) = left.lowest_pair() {
+        copied += pair.copies();
+        left = free_merged(pair);
     }
     Planned { free: left, copied }
 }

@@ -59,7 +59,6 @@ module _ (b u : Section) (hu : Addressable u) where
 
   pub files_after : (m : ℕ) (files : List Entry) → Each PiecesServed (take m files)
       → map file_of (take m (map_first (moved_entry b u) m files)) ≡ map (moved_file b u) (map file_of (take m files))
-  unfolding map_first
   files_after zero files a = refl
   files_after (suc m) [] a = refl
   files_after (suc m) (e ∷ l) (more h a) = ap₂ (λ x y. x ∷ y) (file-moved e h) (files_after m l a)

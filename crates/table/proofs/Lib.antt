@@ -7,7 +7,6 @@ pub mod FreeLists
 pub mod Released
 pub mod LookUps
 pub mod MergedTable
-pub mod FilesMoving
 pub mod NextPair
 pub mod ReadyPairs
 pub mod TableSteps

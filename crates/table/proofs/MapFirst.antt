@@ -1,22 +1,24 @@
 -- A list whose first i items have been replaced by g of them: what a loop that maps an array in place has after i
 -- turns. Assumes nothing.
+use Rattle.std.proofs.lemmas.List.{drop_all, drop_more, get_or_at, get_or_default, length-drop, length-take}
+use Rattle.std.proofs.lemmas.List.{take_all, take_at}
+use Rattle.std.proofs.lemmas.List.Edits.{map_over_more}
 use Rattle.std.specs.List.{position}
 use Rattle.std.specs.Option.{unwrap_or}
 use Rattle.std.specs.Prelude.{None}
 use Rattle.piece_lists.specs.Few.{list_of}
+use Rattle.piece_lists.proofs.EachItem.{each_get}
 use Rattle.piece_lists.proofs.FoundPlaces.{first_place-found}
 use Rattle.piece.specs.Packed.{seen, section_in, piece_of, FitsWord}
 use Rattle.piece.proofs.Packing.{packed, repacked}
 use Rattle.piece.specs.declared.Piece.{Piece}
 use native.Mathlib.Nat.{div-add-mod'}
 use mathlib.Core.Bool.{Bool, cond, false, true}
-use mathlib.Core.List.{List, [], ◌∷◌, map}
+use mathlib.Core.List.{List, [], ◌++◌, ◌∷◌, append-nil, map}
 use mathlib.Core.Path.{◌∙◌, ◌≡◌, ap, refl, sym, ap₂, subst}
-use Prim.Native.Nat.{◌+◌, ◌-◌, ◌≤◌, suc, zero, ℕ, ◌*◌, ◌/◌, ◌^◌}
-use native.Mathlib.Numerals.{add-one}
+use Prim.Native.Nat.{◌+◌, ◌-◌, ◌<◌, ◌≤◌, suc, zero, ℕ, ◌*◌, ◌/◌, ◌^◌}
 use native.Mathlib.Omega.{arith}
-use lib.ListN.{get_or, length, set, take}
-use lib.Seq.{set-get_or}
+use lib.ListN.{drop, get_or, length, length-append, length-map, set, take}
 use Rattle.layout.specs.Lists.{Each, done, more}
 use Rattle.section.specs.Sections.{is_inside, moved_into, section, Addressable, parent_of, parent_first}
 use Rattle.section.specs.declared.Section.{Section}
@@ -26,55 +28,47 @@ use Rattle.table.specs.Tables.{pieces_in}
 use Rattle.table.specs.declared.Entry.{Entry}
 
 module _ {A : Type 0} (g : A → A) where
-  pub map_first-none : (l : List A) → map_first g 0 l ≡ l
-  unfolding map_first
-  map_first-none [] = refl
-  map_first-none (x ∷ l) = refl
-
   pub length-map_first : (i : ℕ) (l : List A) → length (map_first g i l) ≡ length l
-  unfolding map_first
-  length-map_first i [] = refl
-  length-map_first zero (x ∷ l) = refl
-  length-map_first (suc i) (x ∷ l) = ap suc (length-map_first i l)
+  length-map_first i l =
+      length-append (map g (take i l)) (drop i l)
+      ∙ omega (arith, length-map (take i l) g, length-take i l, length-drop i l)
 
-  pub map_first-at : (l : List A) (i : ℕ) (d : A) → get_or (map_first g i l) i d ≡ get_or l i d
-  unfolding map_first
-  map_first-at [] i d = refl
-  map_first-at (x ∷ l) zero d = refl
-  map_first-at (x ∷ l) (suc i) d = map_first-at l i d
+  -- the item that is next
+  map_first-at : (l : List A) (i : ℕ) (d : A) → i < length l → get_or (map_first g i l) i d ≡ get_or l i d
+  map_first-at l i d lt =
+      let long : length (map g (take i l)) ≡ i = length-map (take i l) g ∙ omega (arith, length-take i l) in
+      ap (λ m. get_or (map g (take i l) ++ m) i d) (drop_more l i d lt)
+      ∙ get_or_at (map g (take i l)) (get_or l i d) (drop (i + 1) l) d i long
 
-  map_first-suc : (l : List A) (i : ℕ) (d : A) → set (map_first g i l) i (g (get_or l i d)) ≡ map_first g (suc i) l
-  unfolding map_first
-  map_first-suc [] i d = refl
-  map_first-suc (x ∷ l) zero d = ap (λ m. g x ∷ m) (sym (map_first-none l))
-  map_first-suc (x ∷ l) (suc i) d = ap (λ m. g x ∷ m) (map_first-suc l i d)
+  -- it has what each item had
+  pub map_first-next : {P : A → Type 0} (l m : List A) (i : ℕ) (d : A) → m ≡ map_first g i l → Each P l → i < length l
+      → P (get_or m i d)
+  map_first-next {P = P} l m i d e a lt =
+      subst P (sym (ap (λ x. get_or x i d) e ∙ map_first-at l i d lt)) (each_get {P = P} i d a lt)
 
   -- after one more turn
-  pub map_first_more : (l m : List A) (i : ℕ) (d y : A) → m ≡ map_first g i l → y ≡ g (get_or m i d)
+  pub map_first_more : (l m : List A) (i : ℕ) (d y : A) → i < length l → m ≡ map_first g i l → y ≡ g (get_or m i d)
       → set m i y ≡ map_first g (i + 1) l
-  map_first_more l m i d y p q =
-      ap (λ a. set m i a) q ∙ ap (λ a. set a i (g (get_or a i d))) p
-      ∙ ap (λ a. set (map_first g i l) i (g a)) (map_first-at l i d)
-      ∙ map_first-suc l i d ∙ rw add-one refl
+  map_first_more l m i d y lt p q =
+      let x : A = get_or m i d in
+      let long : length m ≡ length l = ap length p ∙ length-map_first i l in
+      ap (λ a. set m i a) q ∙ map_over_more g l m i x lt p (get_or_default m i d x (omega arith))
 
-  -- the same where the turn changes nothing
-  pub map_first-kept : (l m : List A) (i : ℕ) (d : A) → m ≡ map_first g i l → g (get_or m i d) ≡ get_or m i d
-      → m ≡ map_first g (i + 1) l
-  map_first-kept l m i d p q = sym (set-get_or m i d) ∙ map_first_more l m i d (get_or m i d) p (sym q)
+  -- all of them
+  pub map_first_all : (n : ℕ) (l : List A) → length l ≤ n → map_first g n l ≡ map g l
+  map_first_all n l h = ap₂ (λ a b. map g a ++ b) (take_all n l h) (drop_all n l h) ∙ append-nil (map g l)
 
   -- the first n of them
-  pub take-map_first : (n : ℕ) (l : List A) → take n (map_first g n l) ≡ map g (take n l)
-  unfolding map_first
-  take-map_first zero l = refl
-  take-map_first (suc n) [] = refl
-  take-map_first (suc n) (x ∷ l) = ap (λ m. g x ∷ m) (take-map_first n l)
+  pub take-map_first : (n : ℕ) (l : List A) → n ≤ length l → take n (map_first g n l) ≡ map g (take n l)
+  take-map_first n l h =
+      let long : length (map g (take n l)) ≡ n = length-map (take n l) g ∙ omega (arith, length-take n l) in
+      take_at (map g (take n l)) (drop n l) n long
 
   -- what g keeps, a turn keeps
   pub each_map_first : {P : A → Type 0} (n : ℕ) → ((a : A) → P a → P (g a)) → {l : List A} → Each P l
       → Each P (map_first g n l)
-  unfolding map_first
-  each_map_first n f done = done
-  each_map_first zero f (more p e) = more p e
+  each_map_first zero f e = e
+  each_map_first (suc n) f done = done
   each_map_first (suc n) f (more {a = a} p e) = more {a = g a} (f a p) (each_map_first n f e)
 
 -- ---- a file with no piece inside b stays as it is
@@ -82,9 +76,9 @@ module _ {A : Type 0} (g : A → A) where
 pieces_stay : (b u : Section) (n : ℕ) (l : List Piece)
     → length (take n (seen l)) ≤ first_place (lies_in b) (take n (seen l))
     → map_first (moved_piece b u) n l ≡ l
-unfolding map_first first_place moved_into moved_piece seen
-pieces_stay b u n [] h = refl
-pieces_stay b u zero (s ∷ l) h = refl
+unfolding first_place moved_into moved_piece seen
+pieces_stay b u zero l h = refl
+pieces_stay b u (suc n) [] h = refl
 pieces_stay b u (suc n) (p ∷ l) h = go (is_inside (section_in p) b) h (λ k. pieces_stay b u n l k)
   where
     s : Section
@@ -138,7 +132,7 @@ parent_fits s h =
 -- the pieces of a file, moved
 pub pieces_moved : (b u : Section) (n : ℕ) (l : List Piece) → Addressable u → Each Addressable (take n (seen l))
     → take n (seen (map_first (moved_piece b u) n l)) ≡ map (moved_into b u) (take n (seen l))
-unfolding map_first seen
+unfolding seen
 pieces_moved b u zero l hu a = refl
 pieces_moved b u (suc n) [] hu a = refl
 pieces_moved b u (suc n) (p ∷ l) hu (more h a) =

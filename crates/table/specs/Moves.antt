@@ -1,5 +1,5 @@
 -- Moving the pieces of a file: those that count are moved, the places past them are kept. Definitions only.
-use Rattle.std.specs.Prelude.{Bool, List, [], ◌∷◌, suc, zero, ℕ}
+use Rattle.std.specs.Prelude.{Bool, List, ◌++◌, ℕ, drop, map, take}
 use Rattle.layout.specs.Lists.{Each}
 use Rattle.section.specs.Sections.{Addressable, is_inside, moved_into}
 use Rattle.section.specs.declared.Section.{Section}
@@ -13,10 +13,8 @@ abbrev pub lies_in : Section → Section → Bool
 lies_in b s = is_inside s b
 
 -- the first n items mapped, the others kept
-unfoldable pub map_first : {A : Type 0} → (A → A) → ℕ → List A → List A
-map_first g n [] = []
-map_first g zero (a ∷ l) = a ∷ l
-map_first g (suc n) (a ∷ l) = g a ∷ map_first g n l
+abbrev pub map_first : {A : Type 0} → (A → A) → ℕ → List A → List A
+map_first g n l = map g (take n l) ++ drop n l
 
 -- a piece when what lies inside b has moved to the same distance inside u
 unfoldable pub moved_piece : Section → Section → Piece → Piece

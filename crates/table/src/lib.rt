@@ -17,6 +17,7 @@ mod release;
 
 pub use files::with_file;
 pub use merges::free_merged;
+pub use moves::move_files;
 pub use release::free_with;
 
 // A file: its id, and its pieces in page order.

@@ -1,5 +1,5 @@
 // Moving: what lies inside one section goes to the same distance inside another.
-ghost use Rattle.std.specs.Prelude.{◌≡◌};
+ghost use Rattle.std.specs.Prelude.{map, ◌≡◌};
 ghost use Rattle.std.specs.List.{All, position};
 ghost use Rattle.section.specs.Sections.{Addressable, is_inside};
 ghost use Rattle.layout.specs.Lists.{Each};
@@ -40,20 +40,28 @@ impl Entry {
         requires can_move { CanMove from to (pieces_in self) }
         ensures { result ≡ moved_entry from to self }
     {
-        let list = self.pieces;
-        let m = list.count;
-        let mut items = list.items;
-        let mut j: usize = 0;
-        while j < m {
-            let piece = items[j];
-            let s = piece.section();
-            let moved = s.moved(from, to);
-            items[j] = Piece::of(moved);
-            j += 1;
+        let count = self.pieces.count;
+        let mut items = self.pieces.items;
+        for piece in &mut items[..count] {
+            *piece = Piece::of(piece.section().moved(from, to));
         }
         Entry {
             id: self.id,
-            pieces: Pieces { count: m, items },
+            pieces: Pieces { count, items },
+        }
+    }
+}
+
+// Moves the pieces of files. A file with no piece inside `from` is not written.
+pub fn move_files(files: &mut [Entry], from: Section, to: Section)
+    requires in_places { Each InPlaces files.old }
+    requires addressable { Addressable from × Addressable to }
+    requires pieces_served { Each PiecesServed files.old }
+    ensures { files.new ≡ map (moved_entry from to) files.old }
+{
+    for entry in files {
+        if entry.place_inside(from).is_some() {
+            *entry = entry.moved(from, to);
         }
     }
 }

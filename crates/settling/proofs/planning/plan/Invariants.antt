@@ -2,8 +2,8 @@
 use Rattle.settling.proofs.PlanSteps.{Counted}
 use Rattle.settling.proofs.planning.plan.Given as goal
 
-abbrev pub invariant-loop-p : goal.invariant-loop-p
-invariant-loop-p l = Counted l.initial.left l.left l.copied
+abbrev pub invariant-merges : goal.invariant-merges
+invariant-merges l = Counted l.initial.left l.left l.copied
 
-abbrev pub decreases-loop-p : goal.decreases-loop-p
-decreases-loop-p l = l.left.count
+abbrev pub decreases-merges : goal.decreases-merges
+decreases-merges l = l.left.count

@@ -1,76 +1,61 @@
--- `table::Entry::moved` meets its contract: after j turns the first j pieces have moved. Assumes nothing.
-use Rattle.piece.specs.Packed.{seen, section_in, no_piece, piece_of}
-use Rattle.piece_lists.proofs.SeenPlaces.{each_read}
-use Rattle.piece.specs.declared.Piece.{Piece}
+-- `table::Entry::moved` meets its contract: after i turns the first i pieces have moved. Assumes nothing.
+use Rattle.std.proofs.Common.{◌≡◌, ◌∙◌, ◌++◌, ◌<◌, ℕ, List, ap, refl, subst, sym, drop, get_or, length, take}
+use Rattle.layout.proofs.Lists.{each_unmap}
 use Rattle.layout.specs.Lists.{Each}
-use mathlib.Core.List.{List}
-use mathlib.Core.Path.{◌∙◌, ◌≡◌, ap, sym}
-use Prim.Native.Nat.{◌≤◌, ℕ, ◌<◌}
-use native.Mathlib.Omega.{arith}
-use lib.ListN.{get_or, length, take}
-use borrow.Author.Rules.{rules}
-use Rattle.piece_lists.specs.Few.{list_of, piece_places}
 use Rattle.section.specs.Sections.{Addressable, moved_into}
 use Rattle.section.specs.declared.Section.{Section}
-use Rattle.piece_lists.proofs.Arrays.{length_of_mapped}
-use Rattle.table.proofs.MapFirst.{map_first-at, map_first_more, map_first-none, can_pack}
+use Rattle.piece.specs.Packed.{no_piece, piece_of, section_in, seen}
+use Rattle.piece.specs.declared.Piece.{Piece}
+use Rattle.piece.proofs.Seen.{seen-take}
+use Rattle.piece_lists.specs.Few.{list_of}
+use Rattle.table.proofs.MapFirst.{can_pack, map_first-next, map_first_all, map_first_more}
 use Rattle.table.specs.Moves.{map_first, moved_piece}
 use Rattle.table.proofs.Entry.moved.Goals as goal
 
-served : (b u : Section) (l m : List Piece) (n j : ℕ) (s : Section) → m ≡ map_first (moved_piece b u) j l → n ≤ length l
-    → Each Addressable (take n (seen l)) → j < n → s ≡ section_in (get_or m j no_piece) → Addressable s
-served b u l m n j s e h a lt q =
-    each_read {P = Addressable} l n j s h a lt
-    (q ∙ ap section_in (ap (λ x. get_or x j no_piece) e ∙ map_first-at (moved_piece b u) l j no_piece))
+-- the section in the word that is next is one of those in the list
+served : (g : Piece → Piece) (l m : List Piece) (n i : ℕ) (s : Section) → m ≡ map_first g i (take n l)
+    → Each Addressable (take n (seen l)) → i < length (take n l) → s ≡ section_in (get_or m i no_piece) → Addressable s
+unfolding seen
+served g l m n i s e a lt q =
+    let P : Piece → Type 0 = λ p. Addressable (section_in p) in
+    let each : Each P (take n l) = each_unmap section_in (take n l) (subst (Each Addressable) (seen-take n l) a) in
+    subst Addressable (sym q) (map_first-next g {P = P} (take n l) m i no_piece e each lt)
 
-pub loop-j-init : goal.loop-j-init
-loop-j-init c =
-    let e : length c.args.self.pieces.items ≡ piece_places = search (rules, length_of_mapped) in
-    (omega arith, omega arith, e, sym (map_first-none _ _))
+pub loop-piece-init : goal.loop-piece-init
+loop-piece-init c = refl
 
-pub moved-moved-requires : goal.moved-moved-requires
+pub moved-requires-clause-addressable : goal.moved-requires-clause-addressable
 unfolding list_of
-moved-moved-requires c =
+moved-requires-clause-addressable c =
     let p = c.args.self.pieces in
-    let o = c.loop-j in
-    let v = o.invariant in
-    let s =
-    served c.args.from c.args.to p.items o.items p.count o.j _ v.3 (omega arith)
-    c.requires.can_move.pieces
-    c.loop-j-test.true c.section-s.ensures in
-    record {
-      addressable = s;
-      addressable_2 = c.requires.can_move.from;
-      addressable_3 = c.requires.can_move.to;
-    }
+    let o = c.loop-piece in
+    served _ p.items o.piece-items p.count o.piece-index _ o.invariant c.requires.can_move.pieces
+    c.loop-piece-test.true c.section.ensures
 
 pub of-requires : goal.of-requires
 unfolding list_of
 of-requires c =
     let p = c.args.self.pieces in
-    let o = c.loop-j in
-    let v = o.invariant in
+    let o = c.loop-piece in
     let s =
-    served c.args.from c.args.to p.items o.items p.count o.j _ v.3 (omega arith)
-    c.requires.can_move.pieces
-    c.loop-j-test.true c.section-s.ensures in
-    can_pack c.args.from c.args.to c.section-s.result _ c.requires.can_move.to s c.moved-moved.ensures
+    served _ p.items o.piece-items p.count o.piece-index _ o.invariant c.requires.can_move.pieces
+    c.loop-piece-test.true c.section.ensures in
+    can_pack c.args.from c.args.to c.section.result _ c.requires.can_move.to s c.moved.ensures
 
-pub loop-j-preserved : goal.loop-j-preserved
+pub loop-piece-preserved : goal.loop-piece-preserved
 unfolding moved_piece
-loop-j-preserved c =
-    let o = c.loop-j in
-    let v = o.invariant in
-    let new : c.of.result ≡ moved_piece c.args.from c.args.to (get_or o.items o.j no_piece) =
+loop-piece-preserved c =
+    let o = c.loop-piece in
+    let new : c.of.result ≡ moved_piece c.args.from c.args.to (get_or o.piece-items o.piece-index no_piece) =
     c.of.ensures.word
-    ∙ (ap piece_of c.moved-moved.ensures
-    ∙ ap (λ s. piece_of (moved_into c.args.from c.args.to s)) c.section-s.ensures) in
-    (omega arith, v.1, v.2, map_first_more _ _ _ _ no_piece _ v.3 new)
+    ∙ ap piece_of (c.moved.ensures ∙ ap (moved_into c.args.from c.args.to) c.section.ensures) in
+    map_first_more _ _ _ _ no_piece _ c.loop-piece-test.true o.invariant new
 
 pub returns : goal.returns
 returns c =
-    let v = c.loop-j.invariant in
     let p = c.args.self.pieces in
-    let e : c.loop-j.j ≡ p.count = omega arith in
-    ap (λ (l : List Piece). record { id = c.args.self.id; pieces = record { count = p.count; items = l } })
-    (v.3 ∙ ap (λ k. map_first (moved_piece c.args.from c.args.to) k p.items) e)
+    let o = c.loop-piece in
+    let all = o.invariant ∙ map_first_all _ o.piece-index (take p.count p.items) c.loop-piece-test.false in
+    ap (λ (l : List Piece).
+    record { id = c.args.self.id; pieces = record { count = p.count; items = l ++ drop p.count p.items } })
+    all

@@ -15,7 +15,8 @@ pub place_within-requires-clause-served : goal.place_within-requires-clause-serv
 unfolding seen
 place_within-requires-clause-served c =
     let l = c.as_slice.result.now in
-    let served : Each Addressable (seen l) = subst (Each Addressable) (sym c.as_slice.ensures.listed) c.requires.pieces_served in
+    let served : Each Addressable (seen l) =
+    subst (Each Addressable) (sym c.as_slice.ensures.listed) c.requires.pieces_served in
     λ i d lt. each_get {P = λ (x : Piece). Addressable (section_in x)} i d (each_unmap section_in l served) lt
 
 pub returns : goal.returns

@@ -7,13 +7,12 @@ use Prim.Native.Nat.{◌+◌, ◌-◌, ◌<◌, ◌≤◌, suc, zero, ℕ}
 use native.Mathlib.Numerals.{add-one}
 use native.Mathlib.Omega.{arith}
 use lib.ListN.{get_or-eq_default, get_or, length}
-use lib.Seq.{take_all}
 use Rattle.section.proofs.Answers.{apart_iff}
 use Rattle.section.proofs.Multiples.{below_or_not}
 use Rattle.section.specs.Limits.{greatest_disk}
 use Rattle.section.specs.Sections.{end_of, shares_block}
 use Rattle.section.specs.declared.Section.{Section}
-use Rattle.soundness.proofs.Points.{Row, Rows, false_true, pair_fails, rows_end}
+use Rattle.soundness.proofs.Points.{Row, Rows, false_true, pair_fails, pairwise_points}
 use Rattle.soundness.specs.Sharing.{Ends, far, none_shared, shares_among}
 
 -- the two share no block
@@ -42,7 +41,8 @@ module _ (s : Section) (l : List Section) (at : ℕ) where
   among_more found shares k e f = ap₂ (λ x y. x || y) e f ∙ sym (ap (shares_among s l at) (add-one k))
 
   -- a group in which nothing is shared: each of its pieces is apart
-  none-among : (n : ℕ) → shares_among s l at n ≡ false → (k : ℕ) → k < n → shares_block s (get_or l (at + k) far) ≡ false
+  none-among : (n : ℕ) → shares_among s l at n ≡ false → (k : ℕ) → k < n
+      → shares_block s (get_or l (at + k) far) ≡ false
   unfolding shares_among
   none-among zero e k h = absurd (omega arith)
   none-among (suc n) e k h =
@@ -77,8 +77,7 @@ module _ (l : List Section) (i j n : ℕ) where
 module _ (l : List Section) (count : ℕ) (exact : length l ≡ count) where
   -- when every row is through, no two pieces share a block
   pub rows_through : (i : ℕ) → count ≤ i → Rows l count far apart i → none_shared l ≡ true
-  rows_through i h f =
-      sym (ap none_shared (take_all count l (omega arith))) ∙ rows_end l count far (omega arith) apart i h f
+  rows_through i h f = pairwise_points apart l far (λ a b p q. f a (omega (arith, exact)) b p (omega (arith, exact)))
 
   -- a block is shared in a group: two pieces of the list share one
   pub group_fails : Ends l → (i j n : ℕ) → i < j → i < count → shares_among (get_or l i far) l j n ≡ true
@@ -86,10 +85,9 @@ module _ (l : List Section) (count : ℕ) (exact : length l ≡ count) where
   group_fails ends i j n p q e =
       let w = one-among (get_or l i far) l j n e in
       ⊎_elim
-      (λ h. sym (ap none_shared (take_all count l (omega arith)))
-      ∙ pair_fails l count far (omega arith) apart i (j + w.0) (omega arith) h (ap not w.2))
+      (λ h. pair_fails apart l far i (j + w.0) (omega arith) (omega (arith, exact)) (ap not w.2))
       (λ h.
-      let past : get_or l (j + w.0) far ≡ far = get_or-eq_default l far (omega arith) in
-      false_true (sym (far_apart (get_or l i far) (ends i (omega arith)))
+      let past : get_or l (j + w.0) far ≡ far = get_or-eq_default l far (omega (arith, exact)) in
+      false_true (sym (far_apart (get_or l i far) (ends i (omega (arith, exact))))
       ∙ (sym (ap (shares_block (get_or l i far)) past) ∙ w.2)))
       (below_or_not (j + w.0) count)

@@ -32,7 +32,8 @@ noted-none = record {
   ) far_spans;
 }
 
-push_other : (l : List Section) (s d : Section) (k : ℕ) → (k ≡ length l → ⊥) → get_or (l ++ (s ∷ [])) k d ≡ get_or l k d
+push_other : (l : List Section) (s d : Section) (k : ℕ) → (k ≡ length l → ⊥)
+    → get_or (l ++ (s ∷ [])) k d ≡ get_or l k d
 push_other [] s d zero n = absurd (n refl)
 push_other [] s d (suc k) n = refl
 push_other (a ∷ l) s d zero n = refl
@@ -49,7 +50,8 @@ noted_more l at firsts masks s a n exact q h p = record {
   mask_places = simp length-set h.mask_places;
   spans = λ k r. elim (ℕ_discrete k at) [
     | yes e ↦ subst
-        (λ z. Spans (get_or (l ++ (s ∷ [])) z far) (get_or (set firsts at a) z 0) (get_or (set masks at n) z 0)) (sym e)
+        (λ z. Spans (get_or (l ++ (s ∷ [])) z far) (get_or (set firsts at a) z 0) (get_or (set masks at n) z 0))
+        (sym e)
         (rw (
           get_or_at l s [] far at exact,
           get_or-set_same firsts at a 0 (omega (arith, h.first_places)),

@@ -1,19 +1,28 @@
 -- The order of pieces: what the code tests, and that first blocks rise and lengths are distinct. Assumes nothing.
-use mathlib.Core.Bool.{Bool, false, not, true}
-use mathlib.Core.List.{List}
-use mathlib.Core.Path.{◌∙◌, ◌≡◌, ap, sym}
-use Prim.Native.Nat.{◌<◌, ◌^◌, ◌≤◌}
+use mathlib.Core.Bool.{Bool, ◌&&◌, false, not, true}
+use mathlib.Core.List.{List, [], ◌∷◌}
+use mathlib.Core.Path.{◌∙◌, ◌≡◌, ap, ap₂, refl, sym}
+use Prim.Native.Nat.{suc, ℕ, ◌+◌, ◌-◌, ◌<◌, ◌^◌, ◌≤◌}
 use native.Mathlib.Decide.{ℕ_discrete}
+use native.Mathlib.Numerals.{add-one}
+use native.Mathlib.Omega.{arith}
 use lib.Dec.{eqb, ltb}
+use lib.ListN.{drop, drop_of_length-le, get_or, length, length-drop, take}
+use lib.Seq.{drop-cons, take_all}
+use Rattle.std.specs.List.{list_all}
 use borrow.Author.Tests.{eq-eqb, le-ltb, lt-ltb, ne_eqb}
 use Rattle.catalogue.proofs.Tests.{and_intro, pairs-pairwise, pairwise-pairs}
-use Rattle.catalogue.specs.Reading.{pairwise}
+use Rattle.catalogue.specs.Reading.{every, pairwise}
 use Rattle.layout.proofs.Lists.{each_and, pairwise_imp}
 use Rattle.layout.specs.Lists.{Pairwise, next, none}
+use Rattle.piece.proofs.Seen.{seen-drop, seen-length, seen_get}
+use Rattle.piece.specs.Packed.{no_piece, section_in, seen}
+use Rattle.piece.specs.declared.Piece.{Piece}
 use Rattle.section.proofs.Booleans.{and_true}
 use Rattle.section.proofs.Lengths.{length_unique}
 use Rattle.section.specs.Sections.{length_of}
 use Rattle.section.specs.declared.Section.{Section}
+use Rattle.soundness.proofs.Points.{blank}
 use Rattle.soundness.specs.Order.{in_order, in_turn}
 
 -- ---- two pieces
@@ -37,6 +46,35 @@ unfolding in_turn
 turn_late a b h = simp (lt-ltb a.first b.first h) (sym (ap not (same_length a b)))
 
 -- ---- the pieces of a list
+
+every_seen : (p : Section → Bool) (l : List Piece) → list_all (λ b. p (section_in b)) l ≡ every p (seen l)
+unfolding every seen
+every_seen p [] = refl
+every_seen p (b ∷ l) = ap (λ t. p (section_in b) && t) (every_seen p l)
+
+-- those from the place i on: the first of them with each later one, and the later ones
+pub order-next : (l : List Piece) (i : ℕ) → i < length l
+    → in_order (drop i (seen l))
+    ≡ list_all (λ b. in_turn (section_in (get_or l i no_piece)) (section_in b))
+    (take (length l - (i + 1)) (drop (i + 1) l))
+    && in_order (drop (i + 1) (seen l))
+unfolding pairwise
+order-next l i h =
+    ap in_order (drop-cons (seen l) i blank (omega (arith, seen-length l)))
+    ∙ ap₂ (λ x y. x && y)
+    (ap₂ (λ s k. every (in_turn s) k) (seen_get l i) later
+    ∙ sym (every_seen (in_turn (section_in (get_or l i no_piece))) (take (length l - (i + 1)) (drop (i + 1) l))))
+    (ap (λ n. in_order (drop n (seen l))) (sym (add-one i)))
+  where
+    later : drop (suc i) (seen l) ≡ seen (take (length l - (i + 1)) (drop (i + 1) l))
+    later =
+        ap (λ n. drop n (seen l)) (sym (add-one i))
+        ∙ (seen-drop (i + 1) l
+        ∙ sym (ap seen (take_all (length l - (i + 1)) (drop (i + 1) l) (omega (arith, length-drop (i + 1) l)))))
+
+pub order-none : (l : List Piece) → in_order (drop (length l) (seen l)) ≡ true
+unfolding pairwise
+order-none l = ap in_order (drop_of_length-le (seen l) {i = length l} (omega (arith, seen-length l)))
 
 abbrev pub rising : List Section → Bool
 rising l = pairwise (λ (s t : Section). ltb s.first t.first) l

@@ -1,11 +1,12 @@
 -- Tests on every element of an array's first places, and on every two of them, by their places. Assumes nothing.
-use mathlib.Core.Bool.{Bool, false, true}
+use mathlib.Core.Bool.{Bool, ◌&&◌, false, true}
 use mathlib.Core.List.{List, [], ◌∷◌}
-use mathlib.Core.Path.{◌∙◌, ◌≡◌, ap, ap₂, refl, sym}
+use mathlib.Core.Path.{◌∙◌, ◌≡◌, ap, refl, sym}
 use Prim.Native.Nat.{◌+◌, ◌<◌, ◌≤◌, suc, zero, ℕ}
 use native.Mathlib.Omega.{arith}
-use lib.ListN.{get_or, length, take}
-use lib.Seq.{get_or-take, length-take-le}
+use native.Mathlib.Numerals.{add-one}
+use lib.ListN.{drop, drop_of_length-le, get_or, length}
+use lib.Seq.{drop-cons}
 use borrow.Author.Count.{below_more}
 use Rattle.catalogue.proofs.Tests.{and_intro}
 use Rattle.catalogue.specs.Reading.{every, pairwise}
@@ -34,7 +35,18 @@ module _ {ℓ} {A : Type ℓ} where
   every_at p (a ∷ l) d e zero h = (and_true (p a) (every p l) e).0
   every_at p (a ∷ l) d e (suc i) h = every_at p l d (and_true (p a) (every p l) e).1 i (omega arith)
 
-  pairwise_points : (r : A → A → Bool) (l : List A) (d : A)
+  -- whether all from the place i on pass: the first of them, and the later ones
+  pub every-next : (p : A → Bool) (l : List A) (i : ℕ) (d : A) → i < length l
+      → every p (drop i l) ≡ p (get_or l i d) && every p (drop (i + 1) l)
+  unfolding every
+  every-next p l i d h =
+      ap (every p) (drop-cons l i d h) ∙ ap (λ n. p (get_or l i d) && every p (drop n l)) (sym (add-one i))
+
+  pub every-none : (p : A → Bool) (l : List A) (i : ℕ) → length l ≤ i → every p (drop i l) ≡ true
+  unfolding every
+  every-none p l i h = ap (every p) (drop_of_length-le l {i = i} h)
+
+  pub pairwise_points : (r : A → A → Bool) (l : List A) (d : A)
       → ((i j : ℕ) → i < j → j < length l → r (get_or l i d) (get_or l j d) ≡ true) → pairwise r l ≡ true
   unfolding pairwise
   pairwise_points r [] d h = refl
@@ -60,45 +72,13 @@ module _ {ℓ} {A : Type ℓ} where
   abbrev pub Row : List A → A → (A → A → Bool) → ℕ → ℕ → Type 0
   Row l d r i j = (b : ℕ) → b < j → i < b → r (get_or l i d) (get_or l b d) ≡ true
 
-  module _ (l : List A) (m : ℕ) (d : A) (h : m ≤ length l) where
-    in_place : (i : ℕ) → i < m → get_or (take m l) i d ≡ get_or l i d
-    in_place i q = get_or-take m l i d q
-
-    pub all_hold : (p : A → Bool) → ((i : ℕ) → i < m → p (get_or l i d) ≡ true) → every p (take m l) ≡ true
-    all_hold p f =
-        every_points p (take m l) d
-        (λ i q. let k : i < m = omega (arith, length-take-le m l h) in ap p (in_place i k) ∙ f i k)
-
-    pub one_fails : (p : A → Bool) (i : ℕ) → i < m → p (get_or l i d) ≡ false → every p (take m l) ≡ false
-    one_fails p i q e =
-        is_false (every p (take m l)) (λ t. false_true
-        (sym e
-        ∙ (sym (ap p (in_place i q)) ∙ every_at p (take m l) d t i (omega (arith, length-take-le m l h)))))
-
-    pub pairs_hold : (r : A → A → Bool)
-        → ((i j : ℕ) → i < j → j < m → r (get_or l i d) (get_or l j d) ≡ true) → pairwise r (take m l) ≡ true
-    pairs_hold r f =
-        pairwise_points r (take m l) d (λ i j p q.
-        let k : j < m = omega (arith, length-take-le m l h) in
-        ap₂ r (in_place i (omega arith)) (in_place j k) ∙ f i j p k)
-
-    pub pair_fails : (r : A → A → Bool) (i j : ℕ) → i < j → j < m → r (get_or l i d) (get_or l j d) ≡ false
-        → pairwise r (take m l) ≡ false
-    pair_fails r i j p q e =
-        is_false (pairwise r (take m l)) (λ t. false_true
-        (sym e
-        ∙ (sym (ap₂ r (in_place i (omega arith)) (in_place j q))
-        ∙ pairwise_at r (take m l) d t i j p (omega (arith, length-take-le m l h)))))
-
-    pub rows_end : (r : A → A → Bool) (i : ℕ) → m ≤ i → Rows l m d r i → pairwise r (take m l) ≡ true
-    rows_end r i q fs = pairs_hold r (λ a b p k. fs a (omega arith) b p k)
+  pub pair_fails : (r : A → A → Bool) (l : List A) (d : A) (i j : ℕ) → i < j → j < length l
+      → r (get_or l i d) (get_or l j d) ≡ false → pairwise r l ≡ false
+  pair_fails r l d i j p q e = is_false (pairwise r l) (λ t. false_true (sym e ∙ pairwise_at r l d t i j p q))
 
   module _ (l : List A) (m : ℕ) (d : A) (r : A → A → Bool) where
     pub row_start : (i : ℕ) → Row l d r i (i + 1)
     row_start i b p q = absurd (omega arith)
-
-    pub row_more : (i j : ℕ) → Row l d r i j → r (get_or l i d) (get_or l j d) ≡ true → Row l d r i (j + 1)
-    row_more i j f e = below_more (λ b. i < b → r (get_or l i d) (get_or l b d) ≡ true) j f (λ _. e)
 
     pub rows_none : Rows l m d r 0
     rows_none a p b q k = absurd (omega arith)

@@ -1,5 +1,5 @@
 -- What each test on a table says. Assumes nothing.
-use Rattle.section.specs.Limits.{greatest_height, height_count, greatest_disk}
+use Rattle.section.specs.Limits.{height_count, greatest_disk}
 use mathlib.Core.Bool.{Bool, ◌&&◌, false, true}
 use mathlib.Core.List.{List, [], ◌∷◌, map}
 use mathlib.Core.Logic.{◌⊎◌, inl, inr}
@@ -8,16 +8,15 @@ use Prim.Native.Nat.{◌+◌, ◌-◌, ◌<◌, ◌≤◌, ℕ}
 use native.Mathlib.Decide.{ℕ_discrete}
 use native.Mathlib.Omega.{arith}
 use lib.Dec.{eqb, leb, ltb}
-use lib.ListN.{get_or, length, take}
-use lib.Seq.{get_or-take, length-take-le}
+use lib.ListN.{get_or, length}
 use borrow.Author.Count.{below_more}
 use borrow.Author.Tests.{le-leb, le-ltb, leb-true, lt-leb, lt-ltb, ltb-true}
 use Rattle.catalogue.specs.Reading.{every, pairwise, sound_file, sound_piece}
-use Rattle.soundness.proofs.Joined.{blank_entry, files_to}
-use Rattle.soundness.proofs.Points.{every_at, pair_fails, pairs_hold}
+use Rattle.soundness.proofs.Joined.{blank_entry}
+use Rattle.soundness.proofs.Points.{every_at, pair_fails, pairwise_points}
 use Rattle.soundness.specs.Checking.{ids_rise, sums_agree}
 use Rattle.layout.specs.Layout.{File}
-use Rattle.section.proofs.Booleans.{and_true, and_true_right, false_and}
+use Rattle.section.proofs.Booleans.{and_true}
 use Rattle.section.specs.Heights.{NoHigher}
 use Rattle.section.specs.Sections.{end_of, is_aligned, is_on_disk}
 use Rattle.section.specs.declared.Section.{Section}
@@ -101,42 +100,35 @@ pub rising_more : (l : List Entry) (i last : ℕ) → Rising l i last → last <
     → Rising l (i + 1) (get_or l i blank_entry).id
 rising_more l i last r = rising-next l i last r.0 r.1
 
-module _ (l : List Entry) (m : ℕ) (h : m ≤ length l) where
-  pub ids_hold : (i last : ℕ) → m ≤ i → Rising l i last → ids_rise (files_to m l) ≡ true
+module _ (l : List Entry) where
+  pub ids_hold : (i last : ℕ) → length l ≤ i → Rising l i last → ids_rise (map file_of l) ≡ true
   ids_hold i last q r =
-      pairwise-over (λ (x y : File). ltb x.id y.id) file_of (take m l)
-      ∙ pairs_hold l m blank_entry h id_before
+      pairwise-over (λ (x y : File). ltb x.id y.id) file_of l
+      ∙ pairwise_points id_before l blank_entry
       (λ a b p k. lt-ltb (get_or l a blank_entry).id (get_or l b blank_entry).id (r.0 a b p (omega arith)))
 
-  pub ids_fail : (i last : ℕ) → i < m → Rising l i last → 1 ≤ (get_or l i blank_entry).id
+  pub ids_fail : (i last : ℕ) → i < length l → Rising l i last → 1 ≤ (get_or l i blank_entry).id
       → (get_or l i blank_entry).id ≤ last
-      → ids_rise (files_to m l) ≡ false
+      → ids_rise (map file_of l) ≡ false
   ids_fail i last q r some e = go r.1
     where
       go : ((i ≡ 0) × (last ≡ 0)) ⊎ ((1 ≤ i) × (last ≡ (get_or l (i - 1) blank_entry).id))
-          → ids_rise (files_to m l) ≡ false
+          → ids_rise (map file_of l) ≡ false
       go (inl w) = absurd (omega (arith, w.1))
       go (inr w) =
-          pairwise-over (λ (x y : File). ltb x.id y.id) file_of (take m l)
-          ∙ pair_fails l m blank_entry h id_before (i - 1) i (omega (arith, w.0)) q
+          pairwise-over (λ (x y : File). ltb x.id y.id) file_of l
+          ∙ pair_fails id_before l blank_entry (i - 1) i (omega (arith, w.0)) q
           (le-ltb (get_or l (i - 1) blank_entry).id (get_or l i blank_entry).id
           (subst (λ n. (get_or l i blank_entry).id ≤ n) w.1 e))
 
   -- no file of those that are sound has the id 0
-  pub sound_id : every sound_file (files_to m l) ≡ true → (i : ℕ) → i < m → 1 ≤ (get_or l i blank_entry).id
+  pub sound_id : every sound_file (map file_of l) ≡ true → (i : ℕ) → i < length l → 1 ≤ (get_or l i blank_entry).id
   sound_id e i q =
-      let all = sym (every_map sound_file file_of (take m l)) ∙ e in
-      let one = every_at (λ x. sound_file (file_of x)) (take m l) blank_entry all i (omega (arith, length-take-le m l h)) in
-      let file = subst (λ x. sound_file (file_of x) ≡ true) (get_or-take m l i blank_entry q) one in
-      leb-true 1 (get_or l i blank_entry).id (and_true (leb 1 (get_or l i blank_entry).id) _ file).0
+      let all = sym (every_map sound_file file_of l) ∙ e in
+      let one = every_at (λ x. sound_file (file_of x)) l blank_entry all i q in
+      leb-true 1 (get_or l i blank_entry).id (and_true (leb 1 (get_or l i blank_entry).id) _ one).0
 
 -- ---- pieces of the disk
-
-pub high_piece : (c : ℕ) (s : Section) → greatest_height < s.height.value → sound_piece height_count c s ≡ false
-high_piece c s h = false_and (is_on_disk c s) (le-ltb s.height.value height_count (omega arith))
-
-pub low_piece : (c : ℕ) (s : Section) → s.height.value ≤ greatest_height → sound_piece height_count c s ≡ is_on_disk c s
-low_piece c s h = and_true_right (is_on_disk c s) (lt-ltb s.height.value height_count (omega arith))
 
 pub piece_aligned : (c : ℕ) (s : Section) → sound_piece height_count c s ≡ true → is_aligned s ≡ true
 unfolding is_on_disk

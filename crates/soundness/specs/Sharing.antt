@@ -1,6 +1,7 @@
 -- Pieces that are noted by their first blocks and masks, and compared a group at once. Definitions only.
-use Rattle.std.specs.Prelude.{Bool, ◌&&◌, ◌||◌, false, not, true, List, ◌≡◌, ℕ, zero, suc, ◌+◌, ◌*◌, ◌<◌, ◌≤◌}
-use Rattle.std.specs.Prelude.{get_or, length}
+use Rattle.std.specs.Prelude.{Bool, ◌&&◌, ◌||◌, false, not, List, ◌≡◌, ℕ, zero, suc, ◌+◌, ◌*◌, ◌<◌, ◌≤◌}
+use Rattle.std.specs.Prelude.{Option, get_or, length}
+use Rattle.std.specs.Option.{IfSome, is_some}
 use Rattle.section.specs.declared.Section.{Section}
 use Rattle.section.specs.Limits.{greatest_disk, height_count, most_files}
 use Rattle.section.specs.Sections.{Spans, end_of, section, shares_block}
@@ -8,7 +9,6 @@ use Rattle.layout.specs.Layout.{Layout, all_pieces}
 use Rattle.piece_lists.specs.Few.{piece_places}
 use Rattle.catalogue.specs.Reading.{every, pairwise, sound_piece}
 use Rattle.soundness.specs.Checking.{ids_rise}
-use Rattle.soundness.specs.declared.Notes.{Notes}
 
 -- the places for the pieces of all files and the free ones
 abbrev pub most_pieces : ℕ
@@ -32,12 +32,13 @@ pub record Noted (l : List Section) (firsts masks : List ℕ) : Type 0 where
   pub mask_places : length masks ≡ noted_places
   pub spans : (k : ℕ) → k < noted_places → Spans (get_or l k far) (get_or firsts k 0) (get_or masks k 0)
 
--- whether ids rise and all pieces are sections of the disk; if so, what is noted of the pieces, and where that ends
-pub record NotesOf (l : Layout) (firsts masks : List ℕ) (r : Notes) : Type 0 where
-  pub passed : r.ok ≡ ids_rise l.files && every (sound_piece height_count l.blocks) (all_pieces l)
-  pub few : r.end ≤ most_pieces
-  pub end : r.ok ≡ true → length (all_pieces l) ≡ r.end
-  pub noted : r.ok ≡ true → Noted (all_pieces l) firsts masks
+-- r tells whether ids rise and all pieces are sections of the disk; if so, what is noted of the pieces, and where that
+-- ends
+pub record NotesOf (l : Layout) (firsts masks : List ℕ) (r : Option ℕ) : Type 0 where
+  pub passed : is_some r ≡ ids_rise l.files && every (sound_piece height_count l.blocks) (all_pieces l)
+  pub few : IfSome r (λ n. n ≤ most_pieces)
+  pub end : IfSome r (λ n. length (all_pieces l) ≡ n)
+  pub noted : IfSome r (λ n. Noted (all_pieces l) firsts masks)
 
 -- every piece of l ends where the greatest disk does, or before
 abbrev pub Ends : List Section → Type 0

@@ -38,16 +38,14 @@ pub fn is_sound(table: Table, sum: u32, free: u32) -> bool
     if !sums_agree(table.blocks, sum, free) {
         return false;
     }
-    let pieces = table.free;
-    let list = pieces.few();
+    let list = table.free.few();
     if !in_order(list) {
         return false;
     }
     let mut firsts: [u32; Notes::PLACES] = [Section::GREATEST_DISK; Notes::PLACES];
     let mut masks: [u32; Notes::PLACES] = [0; Notes::PLACES];
-    let notes = note_pieces(&mut firsts, &mut masks, table, list);
-    if !notes.ok {
+    let Some(count) = note_pieces(&mut firsts, &mut masks, &table, list.as_slice()) else {
         return false;
-    }
-    !any_shared(&firsts, &masks, notes.end)
+    };
+    !any_shared(&firsts, &masks, count)
 }

@@ -13,13 +13,9 @@ mod sharing;
 pub use checks::is_sound;
 pub use order::in_order;
 
-// What was noted of a table's pieces, in an array of first blocks and one of masks: whether ids rise and all pieces are
-// sections of the disk, and the place after the last.
-#[derive(Clone, Copy)]
-pub struct Notes {
-    pub ok: bool,
-    pub end: usize,
-}
+// What is noted of a table's pieces: the first block of each in one array and its mask in another. They are two arrays
+// since a group of either is read at once.
+pub struct Notes;
 
 impl Notes {
     // Places for the pieces of all files and the free ones.

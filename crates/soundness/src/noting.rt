@@ -1,7 +1,9 @@
 // The pieces of a table, noted for the comparison of every two: the first blocks in one array, the masks in another.
 ghost use Rattle.section.specs.Limits.{height_count, most_files};
-ghost use Rattle.std.specs.Prelude.{true, List, [], ◌++◌, ◌≡◌, ◌*◌, ◌≤◌, length};
-ghost use Rattle.piece_lists.specs.Few.{list_of, piece_places};
+ghost use Rattle.std.specs.Prelude.{true, List, [], ◌++◌, ◌≡◌, ◌*◌, ◌≤◌, ◌+◌, length};
+ghost use Rattle.std.specs.Option.{IfSome, is_some};
+ghost use Rattle.piece.specs.Packed.{seen};
+ghost use Rattle.piece_lists.specs.Few.{piece_places};
 ghost use Rattle.free_pieces.specs.Free.{free_of};
 ghost use Rattle.table.specs.Tables.{files_of, layout_of};
 ghost use Rattle.catalogue.specs.Reading.{every, sound_file, sound_piece};
@@ -9,7 +11,7 @@ ghost use Rattle.soundness.specs.Counts.{Exact};
 ghost use Rattle.soundness.specs.Sharing.{Noted, NotesOf};
 
 use crate::Notes;
-use piece_lists::Pieces;
+use piece::Piece;
 use section::{Height, Section};
 use table::Table;
 
@@ -17,77 +19,55 @@ use table::Table;
 fn is_piece(section: Section, blocks: u32) -> bool
     ensures { result ≡ sound_piece height_count blocks section }
 {
-    let h = section.height;
-    if Height::GREATEST < h.value {
-        return false;
-    }
-    section.is_on_disk(blocks)
+    section.height.value <= Height::GREATEST && section.is_on_disk(blocks)
 }
 
-// Notes the pieces of a list from a place on, and answers whether all of them are sections of the disk.
+// Notes these pieces from a place on, and answers the place after them, if all of them are sections of the disk.
 fn note_list(
     firsts: &mut [u32; Notes::PLACES],
     masks: &mut [u32; Notes::PLACES],
     at: usize,
-    list: Pieces,
+    pieces: &[Piece],
     blocks: u32,
-) -> bool
-    requires { (list.count ≤ piece_places) × (at ≤ most_files * piece_places) }
-    ensures exact { length (list_of list) ≡ list.count }
-    ensures disk { result ≡ every (sound_piece height_count blocks) (list_of list) }
+) -> Option<usize>
+    requires { (length pieces.now ≤ piece_places) × (at ≤ most_files * piece_places) }
+    ensures end { IfSome result (λ n. n ≡ at + length pieces.now) }
+    ensures disk { is_some result ≡ every (sound_piece height_count blocks) (seen pieces.now) }
     ensures noted { (l : List Section) → length l ≡ at → Noted l firsts.old masks.old
-        → result ≡ true → Noted (l ++ list_of list) firsts.new masks.new }
+        → IfSome result (λ n. Noted (l ++ seen pieces.now) firsts.new masks.new) }
 {
-    let count = list.count;
-    let mut i: usize = 0;
-    while i < count {
-        let piece = list.items[i];
+    for (i, piece) in pieces.iter().enumerate() {
         let section = piece.section();
         if !is_piece(section, blocks) {
-            return false;
+            return None;
         }
         firsts[at + i] = section.first;
         masks[at + i] = section.mask();
-        i += 1;
     }
-    true
+    Some(at + pieces.len())
 }
 
-// Notes all pieces of a table, each file's and then the free ones, which are those of a list; and answers whether the
-// files stand by rising id and all pieces are sections of the disk. One function goes over the files, since a table that
-// is passed on is copied.
+// Notes all pieces of a table, each file's and then the free ones, and answers the place after the last, if the files
+// stand by rising id and all pieces are sections of the disk.
 pub fn note_pieces(
     firsts: &mut [u32; Notes::PLACES],
     masks: &mut [u32; Notes::PLACES],
-    table: Table,
-    free: Pieces,
-) -> Notes
-    requires exact { Exact table × (free.count ≤ piece_places) × (list_of free ≡ free_of table.free) }
-    requires table_value { every sound_file (files_of table) ≡ true }
+    table: &Table,
+    free: &[Piece],
+) -> Option<usize>
+    requires exact { Exact table.now × (length free.now ≤ piece_places) × (seen free.now ≡ free_of table.now.free) }
+    requires table_value { every sound_file (files_of table.now) ≡ true }
     requires noted { Noted [] firsts.old masks.old }
-    ensures { NotesOf (layout_of table) firsts.new masks.new result }
+    ensures { NotesOf (layout_of table.now) firsts.new masks.new result }
 {
-    let blocks = table.blocks;
-    let count = table.count;
     let mut last: u32 = 0;
     let mut at: usize = 0;
-    let mut i: usize = 0;
-    while i < count {
-        let entry = table.files[i];
+    for entry in &table.files[..table.count] {
         if entry.id <= last {
-            return Notes { ok: false, end: at };
+            return None;
         }
         last = entry.id;
-        let list = entry.pieces;
-        if !note_list(firsts, masks, at, list, blocks) {
-            return Notes { ok: false, end: at };
-        }
-        at += list.count;
-        i += 1;
+        at = note_list(firsts, masks, at, entry.pieces.as_slice(), table.blocks)?;
     }
-    let ok = note_list(firsts, masks, at, free, blocks);
-    Notes {
-        ok,
-        end: at + free.count,
-    }
+    note_list(firsts, masks, at, free, table.blocks)
 }

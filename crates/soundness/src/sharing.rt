@@ -21,34 +21,24 @@ fn group_shares(
         → Spans s first mask → result ≡ shares_among s l at group_size }
 {
     let mut found = false;
-    let mut k: usize = 0;
-    while k < Notes::GROUP {
+    for k in 0..Notes::GROUP {
         found |= Section::shares_block(first, mask, firsts[at + k], masks[at + k]);
-        k += 1;
     }
     found
 }
 
-// Whether some two of the first `count` pieces share a block. Both loops are left at the first group with an overlap.
+// Whether some two of the first `count` pieces share a block. Both loops end at the first group with an overlap.
 pub fn any_shared(firsts: &[u32; Notes::PLACES], masks: &[u32; Notes::PLACES], count: usize) -> bool
     requires { count ≤ most_pieces }
     ensures { (l : List Section) → length l ≡ count → Noted l firsts.now masks.now
         → Ends l → result ≡ not (none_shared l) }
 {
-    let mut found = false;
-    let mut i: usize = 0;
-    'pairs: while i < count {
-        let first = firsts[i];
-        let mask = masks[i];
-        let mut j = i + 1;
-        while j < count {
-            if group_shares(firsts, masks, j, first, mask) {
-                found = true;
-                break 'pairs;
+    for i in 0..count {
+        for j in (i + 1..count).step_by(Notes::GROUP) {
+            if group_shares(firsts, masks, j, firsts[i], masks[i]) {
+                return true;
             }
-            j += Notes::GROUP;
         }
-        i += 1;
     }
-    found
+    false
 }

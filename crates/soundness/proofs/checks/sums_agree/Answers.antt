@@ -10,7 +10,8 @@ pub returns-then-blocks-gt-GREATEST_DISK : goal.returns-then-blocks-gt-GREATEST_
 returns-then-blocks-gt-GREATEST_DISK c = sym (large-disk _ _ _ c.if-blocks-gt-GREATEST_DISK.true)
 
 pub returns-then-blocks-sum : goal.returns-then-blocks-sum
-returns-then-blocks-sum c = sym (many_pages _ _ _ c.if-blocks-lt1.false c.if-blocks-gt-GREATEST_DISK.false c.if-blocks-sum.true)
+returns-then-blocks-sum c =
+    sym (many_pages _ _ _ c.if-blocks-lt1.false c.if-blocks-gt-GREATEST_DISK.false c.if-blocks-sum.true)
 
 pub returns : goal.returns
 returns c = sym (sums_left _ _ _ c.if-blocks-lt1.false c.if-blocks-gt-GREATEST_DISK.false c.if-blocks-sum.false)

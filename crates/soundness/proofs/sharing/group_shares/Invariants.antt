@@ -2,16 +2,12 @@
 -- nothing.
 use mathlib.Core.List.{List}
 use mathlib.Core.Path.{◌≡◌}
-use Prim.Native.Nat.{◌-◌, ◌≤◌}
 use Rattle.section.specs.Sections.{Spans}
 use Rattle.section.specs.declared.Section.{Section}
-use Rattle.soundness.specs.Sharing.{Noted, group_size, shares_among}
+use Rattle.soundness.specs.Sharing.{Noted, shares_among}
 use Rattle.soundness.proofs.sharing.group_shares.Given as goal
 
 abbrev pub invariant-loop-k : goal.invariant-loop-k
 invariant-loop-k l =
-    (l.k ≤ group_size)
-    × ((m : List Section) (s : Section) → Noted m l.firsts l.masks → Spans s l.first l.mask → l.found ≡ shares_among s m l.at l.k)
-
-abbrev pub decreases-loop-k : goal.decreases-loop-k
-decreases-loop-k l = group_size - l.k
+    (m : List Section) (s : Section) → Noted m l.firsts l.masks → Spans s l.first l.mask
+    → l.found ≡ shares_among s m l.at l.k

@@ -8,7 +8,6 @@ use lib.Count.{ones}
 use lib.ListN.{drop, length, length-drop, take}
 use Rattle.catalogue.specs.Version.{short_field}
 use Rattle.decoder.proofs.Places.{field_long, field_short, number}
-use borrow.Author.Tests.{eq-eqb, le-leb, lt-leb, ne_eqb}
 use Rattle.catalogue.specs.Reading.{Read, bad, file_read, got, read_entry, read_field, read_pairs, then}
 use Rattle.section.proofs.Multiples.{below_or_not}
 use mathlib.Core.Logic.{◌⊎◌, inl, inr}
@@ -16,7 +15,6 @@ use Rattle.decoder.proofs.Files.{file_many, file_parts, file-read, file_refused}
 use Rattle.decoder.proofs.Runs.{pairs_count}
 use Rattle.decoder.specs.Entries.{SomeEntryAt, accepted, is_file}
 use Rattle.decoder.specs.Fields.{FieldAt, SomePairsAt}
-use Rattle.soundness.specs.Order.{in_order}
 use Rattle.decoder.specs.Pieces.{Sorts}
 use Rattle.decoder.specs.declared.PairsRead.{PairsRead}
 use Rattle.layout.proofs.Lists.{sum_sort}
@@ -108,24 +106,3 @@ module _ (w : ℕ) (s : List ℕ) (i n : ℕ) (p : FieldAt short_field s 0 i) (q
           places = omega (arith, z.count, y.places);
           inside = y.inside;
         }
-
--- ---- what the code tests
-
-module _ (i n : ℕ) (l : List Section) where
-  pub no_id : i ≡ 0 → is_file i n l ≡ false
-  unfolding is_file
-  no_id e = simp (lt-leb 1 i (omega arith))
-
-  pub no_blocks : (i ≡ 0 → ⊥) → n ≡ 0 → is_file i n l ≡ false
-  unfolding is_file
-  no_blocks a e = simp (le-leb 1 i (omega (arith, a)), lt-leb 1 n (omega arith))
-
-  pub other_sum : (i ≡ 0 → ⊥) → (n ≡ 0 → ⊥) → (block_count l ≡ n → ⊥) → is_file i n l ≡ false
-  unfolding is_file
-  other_sum a b e =
-      simp (le-leb 1 i (omega (arith, a)), le-leb 1 n (omega (arith, b)), ne_eqb (block_count l) n e)
-
-  pub order_left : (i ≡ 0 → ⊥) → (n ≡ 0 → ⊥) → block_count l ≡ n → is_file i n l ≡ in_order l
-  unfolding is_file
-  order_left a b e =
-      simp (le-leb 1 i (omega (arith, a)), le-leb 1 n (omega (arith, b)), eq-eqb (block_count l) n e)

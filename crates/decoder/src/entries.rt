@@ -13,20 +13,12 @@ use piece_lists::Pieces;
 use soundness::in_order;
 
 // Whether the pairs of a list, which sum to `sum`, make a file of an id and n blocks.
+#[tactic(auto, unfolding(crate::specs::Entries::is_file))]
 fn is_file(id: u32, n: u32, sum: u32, list: Pieces) -> bool
     requires { (list.count ≤ piece_places) × (sum ≡ block_count (list_of list)) }
     ensures { result ≡ is_file id n (list_of list) }
 {
-    if id == 0 {
-        return false;
-    }
-    if n == 0 {
-        return false;
-    }
-    if sum != n {
-        return false;
-    }
-    in_order(list)
+    1 <= id && 1 <= n && sum == n && in_order(list)
 }
 
 // The entry at the front of a part of the catalogue. A file of more pieces than an entry has places is in no sound
@@ -41,7 +33,7 @@ pub fn read_entry(s: &[u8], width: usize) -> Option<EntryRead>
     }
     let id = read_field(s, 0, Version::SHORT_FIELD);
     let n = read_field(s, Version::SHORT_FIELD, width);
-    let count = u32::count_ones(n) as usize;
+    let count = n.count_ones() as usize;
     if Pieces::PLACES < count {
         return None;
     }
@@ -49,10 +41,9 @@ pub fn read_entry(s: &[u8], width: usize) -> Option<EntryRead>
     if !is_file(id, n, pairs.sum, pairs.list) {
         return None;
     }
-    let entry = sorted(id, pairs.list);
     Some(EntryRead {
         n,
         size: pairs.end,
-        entry,
+        entry: sorted(id, pairs.list),
     })
 }

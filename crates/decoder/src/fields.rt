@@ -47,8 +47,10 @@ fn read_pair(s: &[u8], at: usize, width: usize) -> Option<PairRead>
         return None;
     }
     let height = Height::of_length(length)?;
-    let piece = Piece::of(Section { first, height });
-    Some(PairRead { length, piece })
+    Some(PairRead {
+        length,
+        piece: Piece::of(Section { first, height }),
+    })
 }
 
 // The pairs from a place on, `count` of them.

@@ -57,10 +57,7 @@ fn is_sound_read(cat: &[u8], version: Version, read: TableRead) -> bool
     requires { Served version × SomeTableAt version cat.now read }
     ensures { Judged version cat.now read.table result }
 {
-    if !is_zero_from(cat, read.at) {
-        return false;
-    }
-    is_sound(read.table, read.sum, read.free)
+    is_zero_from(cat, read.at) && is_sound(read.table, read.sum, read.free)
 }
 
 // The table of a catalogue, if its bytes are sound.

@@ -1,5 +1,5 @@
 // The whole catalogue, read into a table.
-ghost use Rattle.std.specs.Prelude.{◌≡◌, ◌-◌, ◌≤◌, length};
+ghost use Rattle.std.specs.Prelude.{◌≡◌, ◌≤◌, length};
 ghost use Rattle.catalogue.specs.Version.{Served};
 ghost use Rattle.soundness.specs.Counts.{Exact};
 ghost use Rattle.decoder.specs.Loading.{HeaderAt, TableAt};
@@ -32,16 +32,6 @@ pub fn no_table() -> Table
     }
 }
 
-// The blocks of a disk that the files leave, or 0 where they have more.
-fn left_free(blocks: u32, sum: u32) -> u32
-    ensures { (result ≡ blocks - sum) × (result ≤ blocks) }
-{
-    if blocks < sum {
-        return 0;
-    }
-    blocks - sum
-}
-
 // The table after the header: the entries, each read from its own part of the catalogue, and the free pairs, which are
 // few in a sound layout.
 fn read_body(cat: &[u8], version: Version, blocks: u32, count: usize) -> Option<TableRead>
@@ -59,12 +49,11 @@ fn read_body(cat: &[u8], version: Version, blocks: u32, count: usize) -> Option<
         at += read.size;
         sum += read.n;
     }
-    let ones = u32::count_ones(left_free(blocks, sum)) as usize;
+    let ones = blocks.saturating_sub(sum).count_ones() as usize;
     if Pieces::PLACES < ones {
         return None;
     }
     let pairs = read_pairs(cat, at, ones, width)?;
-    let free = Free::of(pairs.list);
     Some(TableRead {
         sum,
         free: pairs.sum,
@@ -73,7 +62,7 @@ fn read_body(cat: &[u8], version: Version, blocks: u32, count: usize) -> Option<
             blocks,
             count,
             files,
-            free,
+            free: Free::of(pairs.list),
         },
     })
 }

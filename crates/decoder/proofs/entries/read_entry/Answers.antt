@@ -40,4 +40,4 @@ returns c =
     some_entry c.args.width c.args.s.now _ _
     c.read_field-id.ensures
     c.read_field-n.ensures _ c.in_ok-pairs.ensures _
-    (sym c.is_file.ensures ∙ c.if-not-is_file.false) c.sorted-entry.ensures
+    (sym c.is_file.ensures ∙ c.if-not-is_file.false) c.sorted.ensures

@@ -15,8 +15,8 @@ returns-then-first-ge-GREATEST_DISK c =
     pair_far c.args.width c.args.s.now c.args.at _ _ c.read_field-first.ensures
     c.read_field-length.ensures c.if-first-ge-GREATEST_DISK.true
 
-pub of-piece-requires : goal.of-piece-requires
-of-piece-requires c =
+pub of-requires : goal.of-requires
+of-requires c =
     let l = (length-of-height _ _ (sym c.in_ok-height.ensures)).0 in
     record { first = omega (arith, c.if-first-ge-GREATEST_DISK.false); height = omega (arith, l) }
 
@@ -26,7 +26,7 @@ returns c =
     (omega (arith, c.if-first-ge-GREATEST_DISK.false))
     (sym c.in_ok-height.ensures)
     (omega arith) _
-    c.of-piece.ensures.holds
+    c.of.ensures.holds
 
 pub returns-in_err-height : goal.returns-in_err-height
 returns-in_err-height c =

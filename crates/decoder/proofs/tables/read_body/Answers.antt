@@ -49,19 +49,12 @@ loop-file-preserved c =
     filled_more _ _ _ _ _ _ _ c.loop-file.invariant (grind (arith, common_steps)) _ c.in_ok-read.ensures
 
 pub overflow_cast-ones : goal.overflow_cast-ones
-overflow_cast-ones c = omega (
-  arith,
-  ones-le 32 c.left_free.result (omega (
-    arith,
-    c.requires.2.most,
-    c.left_free.ensures.1,
-  )),
-)
+overflow_cast-ones c = omega (arith, ones-le 32 c.saturating_sub.result (omega arith))
 
 pub returns-then-ones-gt-PLACES : goal.returns-then-ones-gt-PLACES
 returns-then-ones-gt-PLACES c =
     unread_many _ c.requires.0 _ _ _ c.requires.2 _ _ _
-    (filled_all _ _ _ _ _ _ _ c.loop-file.invariant (grind (arith, common_steps))) _ c.left_free.ensures.0
+    (filled_all _ _ _ _ _ _ _ c.loop-file.invariant (grind (arith, common_steps))) _ c.saturating_sub.ensures
     c.if-ones-gt-PLACES.true
 
 pub read_pairs-requires : goal.read_pairs-requires
@@ -71,14 +64,14 @@ pub returns-in_err-pairs : goal.returns-in_err-pairs
 returns-in_err-pairs c =
     rw c.from_residual-in_err-pairs.ensures
     (unread-free _ c.requires.0 _ _ _ c.requires.2 _ _ _
-    (filled_all _ _ _ _ _ _ _ c.loop-file.invariant (grind (arith, common_steps))) _ c.left_free.ensures.0
+    (filled_all _ _ _ _ _ _ _ c.loop-file.invariant (grind (arith, common_steps))) _ c.saturating_sub.ensures
     c.in_err-pairs.ensures)
 
 pub returns : goal.returns
 returns c =
     table_at _ c.requires.0 _ _ _ c.requires.2 _ _ _
-    (filled_all _ _ _ _ _ _ _ c.loop-file.invariant (grind (arith, common_steps))) _ c.left_free.ensures.0 _
-    c.in_ok-pairs.ensures _ c.of-free.ensures _ c.loop-file.invariant.exact (grind (arith, common_steps))
+    (filled_all _ _ _ _ _ _ _ c.loop-file.invariant (grind (arith, common_steps))) _ c.saturating_sub.ensures _
+    c.in_ok-pairs.ensures _ c.of.ensures _ c.loop-file.invariant.exact (grind (arith, common_steps))
     (each_append c.loop-file.invariant.each
     (each_drop c.args.count
     (each_replicate most_files c.no_entry-blank.result (omega (arith, c.no_entry-blank.ensures.1)))))

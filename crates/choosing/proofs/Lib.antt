@@ -1,6 +1,4 @@
 -- Laws of choices, and the proofs of the functions.
-pub mod CopyOrder
-pub mod ChoicePlaces
 pub mod IdPlaces
 pub mod CountedCopies
 pub mod RankedNone

@@ -11,7 +11,5 @@ pub fn copies_for(free: Free, e: Entry) -> u32
     requires { CanCount free e }
     ensures { Counts free e result }
 {
-    let released = free_with(free, e);
-    let planned = plan(released);
-    planned.copied
+    plan(free_with(free, e)).copied
 }

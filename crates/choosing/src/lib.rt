@@ -11,11 +11,12 @@ mod which;
 
 pub use which::which_in;
 
-// A file by its id, and the number of blocks that its removal would copy.
-#[derive(Clone, Copy)]
+// A file by its id, and the number of blocks that its removal would copy. Choices are ordered by this number, equal
+// numbers by the id.
+#[derive(Clone, Copy, PartialEq, Eq, PartialOrd, Ord)]
 pub struct Choice {
-    pub id: u32,
     pub copies: u32,
+    pub id: u32,
 }
 
 // Files by these numbers, the fewest first, equal numbers by lower id.

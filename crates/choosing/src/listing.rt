@@ -12,16 +12,8 @@ pub fn write_ids(places: &mut [u16], all: Choices)
     requires { (length places.old ≡ most_files) × (Listable all) }
     ensures { places.new ≡ then_zeros (ids_in all) }
 {
-    let m = all.count;
-    let items = all.items;
-    let mut i: usize = 0;
-    while i < Section::MOST_FILES {
-        let mut id: u32 = 0;
-        if i < m {
-            let x = items[i];
-            id = x.id;
-        }
-        places[i] = id as u16;
-        i += 1;
+    places.fill(0);
+    for (i, choice) in all.items[..all.count].iter().enumerate() {
+        places[i] = choice.id as u16;
     }
 }

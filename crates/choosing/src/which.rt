@@ -19,16 +19,12 @@ fn choices_for(t: Table, n: u64, free: u32) -> Choices
     requires free { IsFree t free }
     ensures { Chosen t n result }
 {
-    let old = t.free;
     let mut all = Choices::none();
-    let mut j = t.count;
-    while 0 < j {
-        j -= 1;
-        let e = t.files[j];
-        let room = free + pieces::blocks_of(e);
+    for e in t.files[..t.count].iter().rev() {
+        let room = free + pieces::blocks_of(*e);
         if n <= room as u64 {
-            let copies = copies_for(old, e);
-            all = all.with(Choice { id: e.id, copies });
+            let copies = copies_for(t.free, *e);
+            all = all.with(Choice { copies, id: e.id });
         }
     }
     all
@@ -51,8 +47,7 @@ pub fn which_in(t: Table, n: u64, places: &mut [u16]) -> Answer
     }
     let free = free_in(t);
     if n <= free as u64 {
-        let none = Choices::none();
-        write_ids(places, none);
+        write_ids(places, Choices::none());
         return Ok(Answered::FitsAlready);
     }
     let all = choices_for(t, n, free);

@@ -4,17 +4,13 @@ use mathlib.Core.Path.{◌∙◌, ◌≡◌, ap₂, subst, sym}
 use Prim.Native.Nat.{ℕ}
 use Rattle.section.specs.Sections.{length_of}
 use Rattle.section.specs.declared.Section.{Section}
-use Rattle.layout.proofs.Lists.{each_sort}
 use Rattle.layout.specs.Layout.{by_first, file_blocks}
-use Rattle.layout.specs.Lists.{Each, sort_by}
-use Rattle.piece_lists.specs.Few.{ListsFew, list_of}
+use Rattle.layout.specs.Lists.{sort_by}
 use Rattle.table.specs.Tables.{file_of, pieces_in}
 use Rattle.table.specs.declared.Entry.{Entry}
-use Rattle.piece_lists.specs.declared.Pieces.{Pieces}
 use Rattle.catalogue.proofs.Grouping.{entry_bytes_parts, pair_bytes_parts}
 use Rattle.catalogue.specs.Encoding.{big_endian, entry_bytes, pair_bytes, pairs_bytes}
 use Rattle.catalogue.specs.Version.{short_field}
-use Rattle.pieces.specs.Pieces.{Low, LowEntry}
 use Rattle.encoder.specs.Store.{Room, Written}
 use Rattle.encoder.proofs.StoreWritten.{room_left, room_right, written_more}
 
@@ -28,17 +24,12 @@ pair_written w s n {a = a} {b = b} {c = c} {at = at} {q = q} {r = r} e x y =
 
 -- ---- an entry, from its blocks and its sorted pieces
 
-module _ (w : ℕ) (e : Entry) (n : ℕ) (blocks : n ≡ file_blocks (file_of e)) (s : Pieces)
-    (sorted : ListsFew e.pieces.count (sort_by by_first (pieces_in e)) s) where
-  pub entry_parts : entry_bytes w (file_of e)
-      ≡ big_endian short_field e.id ++ (big_endian w n ++ pairs_bytes w (list_of s))
-  entry_parts =
-      entry_bytes_parts w (file_of e)
-      ∙ ap₂ (λ m l. big_endian short_field e.id ++ (big_endian w m ++ pairs_bytes w l)) (sym blocks)
-      (sym sorted.list)
-
-  pub sorted-low : LowEntry e → Each Low (list_of s)
-  sorted-low h = subst (Each Low) (sym sorted.list) (each_sort by_first h.low)
+pub entry_parts : (w : ℕ) (e : Entry) (n : ℕ) → n ≡ file_blocks (file_of e) → (l : List Section)
+    → l ≡ sort_by by_first (pieces_in e)
+    → entry_bytes w (file_of e) ≡ big_endian short_field e.id ++ (big_endian w n ++ pairs_bytes w l)
+entry_parts w e n blocks l sorted =
+    entry_bytes_parts w (file_of e)
+    ∙ ap₂ (λ m k. big_endian short_field e.id ++ (big_endian w m ++ pairs_bytes w k)) (sym blocks) (sym sorted)
 
 -- an entry's id has room
 pub entry-room : (w : ℕ) (e : Entry) (cat : List ℕ) (at : ℕ) → Room cat at (entry_bytes w (file_of e))

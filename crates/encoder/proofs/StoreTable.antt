@@ -1,31 +1,29 @@
 -- The bytes of a whole layout: the room that a sound one has, and all parts together. Assumes nothing.
-use mathlib.Core.List.{List, [], ◌++◌}
-use mathlib.Core.Path.{◌∙◌, ◌≡◌, ap, ap₂, subst, sym}
+use mathlib.Core.List.{List, ◌++◌}
+use mathlib.Core.Path.{◌∙◌, ◌≡◌, ap, ap₂, sym}
 use Prim.Native.Nat.{◌+◌, ◌-◌, ◌<◌, ◌≤◌, ℕ}
 use native.Mathlib.Omega.{arith}
 use lib.ListN.{length, length-append, replicate, take}
-use Rattle.section.specs.Limits.{height_count, most_files}
+use Rattle.section.specs.Limits.{height_count}
 use Rattle.section.specs.declared.Section.{Section}
-use Rattle.layout.proofs.Lists.{each_imp}
+use Rattle.layout.proofs.Lists.{each_imp, each_right}
 use Rattle.layout.specs.Layout.{Layout, file_pieces}
 use Rattle.layout.specs.Lists.{Each}
 use Rattle.layout.specs.Sound.{Sound}
-use Rattle.table.specs.Tables.{Sized, files_of}
+use Rattle.piece.proofs.Seen.{seen-take}
+use Rattle.free_pieces.specs.Free.{free_of}
+use Rattle.table.specs.Tables.{files_of, layout_of}
 use Rattle.table.specs.declared.Table.{Table}
 use Rattle.catalogue.proofs.Fields.{big_endian-length}
-use Rattle.catalogue.proofs.Grouping.{entries_bytes_nil, header_bytes_parts, used_bytes_parts}
+use Rattle.catalogue.proofs.Grouping.{header_bytes_parts, used_bytes_parts}
 use Rattle.catalogue.proofs.Roomy.{roomy}
 use Rattle.catalogue.proofs.Size.{used_most_lem}
 use Rattle.catalogue.specs.Encoding.{encode, entries_bytes, pairs_bytes, used_bytes}
 use Rattle.catalogue.specs.Version.{OneOf, short_field, versions}
 use Rattle.catalogue.specs.declared.Version.{Version}
 use Rattle.pieces.specs.Pieces.{Low}
-use Rattle.encoder.specs.Store.{Room, Written, header_fields, no_files}
-use Rattle.table.proofs.Released.{length-files}
-use Rattle.encoder.proofs.StoreWritten.{room_left, room_right, written_more, written_none}
-
-pub files_count : (t : Table) → Sized t → length t.files ≡ most_files → t.count ≡ length (files_of t)
-files_count t sized exact = sym (length-files t (omega (arith, sized.files)))
+use Rattle.encoder.specs.Store.{Room, Written, header_fields, layout_from}
+use Rattle.encoder.proofs.StoreWritten.{room_left, room_right, written_more}
 
 -- ---- the header
 
@@ -85,13 +83,18 @@ module _ (v : Version) (known : OneOf v versions) (y : Layout) (n : ℕ) (count 
             ∙ ap₂ (λ l m. l ++ replicate m 0) (all-written.front ∙ sym used_parts)
             (ap₂ (λ l m. l - m) (all-written.exact ∙ full) e₃)
 
--- ---- no file
+-- ---- layouts of entries and pieces
+
+-- the layout of a table
+pub table_layout : (t : Table)
+    → layout_from t.blocks (take t.count t.files) (take t.free.count t.free.items) ≡ layout_of t
+unfolding files_of free_of layout_of
+table_layout t =
+    ap (λ l. record { blocks = t.blocks; files = files_of t; free = l })
+    (sym (seen-take t.free.count t.free.items))
 
 -- the heights of the free pieces have lengths
-pub fresh-low : (k : ℕ) → k ≤ height_count → (n : ℕ) (l : List Section) → Sound k (no_files n l) → Each Low l
-unfolding file_pieces
-fresh-low k most n l sound = each_imp (λ (s : Section) (h : s.height.value < k). omega arith) sound.heights
-
--- and no entry is written
-pub no_entries : (w : ℕ) (cat : List ℕ) (at : ℕ) → Written cat at (entries_bytes w []) cat at
-no_entries w cat at = subst (λ l. Written cat at l cat at) (sym (entries_bytes_nil w)) (written_none cat at)
+pub free-low : (k : ℕ) → k ≤ height_count → (y : Layout) → Sound k y → Each Low y.free
+free-low k most y sound =
+    each_imp (λ (s : Section) (h : s.height.value < k). omega arith)
+    (each_right (file_pieces y.files) y.free sound.heights)

@@ -1,7 +1,11 @@
 -- What the functions that write a catalogue ask for and promise. Definitions only.
-use Rattle.std.specs.Prelude.{List, [], ◌++◌, ◌≡◌, ◌+◌, ◌≤◌, ℕ, length, take}
+use Rattle.std.specs.Prelude.{List, [], map, ◌++◌, ◌≡◌, ◌+◌, ◌≤◌, ℕ, length, take}
 use Rattle.section.specs.declared.Section.{Section}
 use Rattle.layout.specs.Layout.{Layout}
+use Rattle.piece.specs.Packed.{seen}
+use Rattle.piece.specs.declared.Piece.{Piece}
+use Rattle.table.specs.Tables.{file_of}
+use Rattle.table.specs.declared.Entry.{Entry}
 use Rattle.catalogue.specs.Encoding.{big_endian}
 use Rattle.catalogue.specs.Version.{short_field}
 use Rattle.catalogue.specs.declared.Version.{Version}
@@ -24,3 +28,7 @@ header_fields v n m =
 -- the layout of a disk of n blocks with no file, and the free pieces l
 abbrev pub no_files : ℕ → List Section → Layout
 no_files n l = record { blocks = n; files = []; free = l }
+
+-- the layout of a disk of n blocks, of the files in the entries and the free pieces
+abbrev pub layout_from : ℕ → List Entry → List Piece → Layout
+layout_from n l free = record { blocks = n; files = map file_of l; free = seen free }

@@ -5,32 +5,32 @@ use Rattle.encoder.proofs.StoreTable.{header-length}
 use Rattle.encoder.proofs.StoreWritten.{written_more}
 use Rattle.encoder.proofs.storing.write_header.Goals as goal
 
-pub write_field-after_version-requires : goal.write_field-after_version-requires
-write_field-after_version-requires c =
+pub write_short-after_version-requires : goal.write_short-after_version-requires
+write_short-after_version-requires c =
     simp big_endian-length
-    (omega (arith, header-length c.args.version c.args.blocks c.args.count, c.requires))
+    (omega (arith, header-length c.args.version c.args.blocks c.args.count, c.requires.room))
 
-pub write_field-after_blocks-requires : goal.write_field-after_blocks-requires
-write_field-after_blocks-requires c =
-    let w = c.write_field-after_version.ensures in
+pub write_field-after_blocks-requires-clause-room : goal.write_field-after_blocks-requires-clause-room
+write_field-after_blocks-requires-clause-room c =
+    let w = c.write_short-after_version.ensures in
     simp big_endian-length
     (omega (
       arith,
       header-length c.args.version c.args.blocks c.args.count,
-      c.requires,
+      c.requires.room,
       w.exact,
       simp big_endian-length at w.next,
     ))
 
-pub write_field-requires : goal.write_field-requires
-write_field-requires c =
+pub write_short-requires : goal.write_short-requires
+write_short-requires c =
     let v = c.write_field-after_blocks.ensures in
-    let w = c.write_field-after_version.ensures in
+    let w = c.write_short-after_version.ensures in
     simp big_endian-length
     (omega (
       arith,
       header-length c.args.version c.args.blocks c.args.count,
-      c.requires,
+      c.requires.room,
       w.exact,
       simp big_endian-length at w.next,
       v.exact,
@@ -39,7 +39,7 @@ write_field-requires c =
 
 pub returns : goal.returns
 returns c =
-    let u = c.write_field in
+    let u = c.write_short in
     let v = c.write_field-after_blocks in
-    let w = c.write_field-after_version in
+    let w = c.write_short-after_version in
     written_more w.ensures (written_more v.ensures u.ensures)

@@ -1,7 +1,7 @@
 -- Laws of arrays and of the free pieces, and the proofs of the functions.
-pub mod Draws
+pub mod FirstTaken
 pub mod FoundPieces
-pub mod Fewer
+pub mod DueHeights
 pub mod PairPlaces
 pub mod BuddyPlaces
 pub mod PieceTaken

@@ -1,68 +1,28 @@
 -- Two pieces taken at their places are the pair to merge: where no two are buddies, the lowest of a height and the
 -- lowest of it behind that. Assumes nothing.
-use Rattle.std.specs.Prelude.{Some}
-use mathlib.Core.Bool.{Bool, false, true}
-use mathlib.Core.List.{List, [], ◌∷◌}
-use mathlib.Core.Path.{◌∙◌, ◌≡◌, ap, ap₂, refl, subst, sym}
-use Prim.Native.Nat.{◌+◌, ◌-◌, ◌<◌, ◌≤◌, suc, zero, ℕ}
-use native.Mathlib.Decide.{dec_lt}
-use native.Mathlib.Omega.{arith}
-use lib.ListN.{drop, get_or, length}
-use Rattle.section.specs.declared.Section.{Section}
+use Rattle.std.proofs.Common.{◌≡◌, ◌+◌, ◌<◌, ◌∙◌, ap, ap₂, arith, refl, sym, subst, suc, zero, ℕ, List, [], ◌∷◌, drop, get_or, length, Option, Some, None}
+use Rattle.std.specs.List.{position}
+use Rattle.std.specs.Prelude.{option_and_then, option_map}
 use Rattle.section.specs.Sections.{section}
+use Rattle.section.specs.declared.Section.{Section}
 use Rattle.layout.proofs.MergePairs.{merge_pair-lowest}
 use Rattle.layout.proofs.Splitting.{count_none, of_height_same}
 use Rattle.layout.proofs.Taking.{TakesOf, nothing_height, take_first_is, takes_height, takes_sum}
-use Rattle.layout.specs.Adding.{take_first, taken}
+use Rattle.layout.specs.Adding.{nothing, take_first}
 use Rattle.layout.specs.Covering.{count_of}
 use Rattle.layout.specs.Layout.{has_height, of_height}
 use Rattle.layout.specs.Removing.{buddy_pair, fewer, lowest_two, merge_pair, pair, second_of, with_lower}
-use Rattle.piece_lists.specs.Places.{first_place, without_at}
-use Rattle.free_pieces.proofs.Draws.{take_at, take_none}
-use Rattle.free_pieces.specs.Free.{free_of, free_places, pair_of}
+use Rattle.piece.proofs.Seen.{seen-drop}
+use Rattle.piece.specs.Packed.{section_in, seen}
+use Rattle.piece.specs.declared.Piece.{Piece}
+use Rattle.piece_lists.specs.Places.{without_at}
+use Rattle.free_pieces.proofs.FirstTaken.{FirstAt, first-next, none-next, take_at}
+use Rattle.free_pieces.proofs.FoundPieces.{first-found, nothing-found}
+use Rattle.free_pieces.specs.Free.{free_of, pair_of}
 use Rattle.free_pieces.specs.Pairs.{PairsAt}
-use Rattle.free_pieces.specs.declared.Free.{Free}
 use Rattle.free_pieces.specs.declared.Pair.{Pair}
-use Rattle.piece.proofs.Seen.{seen-length}
-use Rattle.piece.specs.Packed.{seen}
-use lib.Seq.{length-take-le}
 
--- behind the first that passes, the next one stands where it does once the first is out
-pub place_next : (q : Section → Bool) (l : List Section) → first_place q l < length l
-    → first_place q (without_at (first_place q l) l) ≡ first_place q l + first_place q (drop (suc (first_place q l)) l)
-unfolding first_place without_at
-place_next q [] p = absurd (omega arith)
-place_next q (a ∷ l) p = go (q a) refl p (λ lt. place_next q l lt)
-  where
-    after : Bool → ℕ
-    after t = elim t as (λ _. ℕ) [ true ↦ 0 | false ↦ suc (first_place q l) ]
-
-    go : (t : Bool) → q a ≡ t → after t < suc (length l)
-        → (first_place q l < length l
-        → first_place q (without_at (first_place q l) l) ≡ first_place q l + first_place q (drop (suc (first_place q l)) l))
-        → first_place q (without_at (after t) (a ∷ l)) ≡ after t + first_place q (drop (suc (after t)) (a ∷ l))
-    go true e lt ih = omega arith
-    go false e lt ih =
-        ap (λ t. elim t as (λ _. ℕ) [ true ↦ 0 | false ↦ suc (first_place q (without_at (first_place q l) l)) ]) e
-        ∙ omega (arith, ih (omega arith))
-
--- a height that is counted has a place
-pub place_there : (h : ℕ) (l : List Section) → 0 < count_of h l → first_place (has_height h) l < length l
-place_there h l some = go (dec_lt (first_place (has_height h) l) (length l))
-  where
-    go : Dec (first_place (has_height h) l < length l) → first_place (has_height h) l < length l
-    go (yes p) = p
-    go (no n) =
-        let e = subst (TakesOf (has_height h) l) (take_none (has_height h) l (omega (arith, n)))
-        (take_first_is (has_height h) l) in
-        absurd (omega (arith, some, count_none h (nothing_height e)))
-
--- as many as are counted
-pub free-length : (f : Free) → length f.items ≡ free_places → f.count ≤ free_places → length (free_of f) ≡ f.count
-unfolding free_of
-free-length f e p = length-take-le f.count (seen f.items) (omega (arith, e, p, seen-length f.items))
-
-pub without-length : (i : ℕ) (l : List Section) → i < length l → length (without_at i l) + 1 ≡ length l
+without-length : (i : ℕ) (l : List Section) → i < length l → length (without_at i l) + 1 ≡ length l
 unfolding without_at
 without-length i [] p = absurd (omega arith)
 without-length zero (a ∷ l) p = omega arith
@@ -74,11 +34,6 @@ pub record PairPlaces (h : ℕ) (free : List Section) (low next : ℕ) : Type 0 
   pub upper : next + 1 < length free
   pub pairs : (n : ℕ) (p : Pair) → PairsAt n free low next p → pair_of (Some p) ≡ merge_pair h free
 
-pub places_same : {h : ℕ} {free : List Section} {low next i j : ℕ} → PairPlaces h free low next → i ≡ low → j ≡ next
-    → PairPlaces h free i j
-places_same {h} {free} {low} {next} {i} {j} p e f =
-    subst (λ z. PairPlaces h free z j) (sym e) (subst (PairPlaces h free low) (sym f) p)
-
 -- what is taken at two places
 pub pairs_are : (n : ℕ) (free : List Section) (low next : ℕ) (p : Pair) → PairsAt n free low next p
     → pair_of (Some p)
@@ -88,47 +43,80 @@ pairs_are n free low next p q =
     ap (λ l. pair l p.upper (free_of p.others)) q.lower
     ∙ ap₂ (λ u r. pair (get_or free low (section 0 0)) u r) q.upper q.others
 
-module _ (h : ℕ) (free : List Section) (none : buddy_pair h free ≡ fewer) (two : 1 < count_of h free) where
-  abbrev low : ℕ
-  low = first_place (has_height h) free
+module _ (h : ℕ) where
+  count_nothing : (l : List Section) → nothing ≡ take_first (has_height h) l → count_of h l ≡ 0
+  count_nothing l e =
+      count_none h (nothing_height (subst (TakesOf (has_height h) l) (sym e) (take_first_is (has_height h) l)))
 
-  abbrev next : ℕ
-  next = first_place (has_height h) (without_at low free)
-
-  pub low_there : low < length free
-  low_there = place_there h free (omega (arith, two))
-
-  first : take_first (has_height h) free ≡ taken (get_or free low (section 0 0)) (without_at low free)
-  first = take_at (has_height h) (section 0 0) free low_there
+  -- the two lowest, where no two are buddies
+  lowest-places : (free : List Section) → buddy_pair h free ≡ fewer → (i j : ℕ) → FirstAt (has_height h) free i
+      → FirstAt (has_height h) (drop (i + 1) free) j → PairPlaces h free i (i + j)
+  unfolding lowest_two
+  lowest-places free none i j f g =
+      let k = first-next (has_height h) free i j f g in
+      record {
+        lower = f.below;
+        upper = omega (arith, k.below, without-length i free f.below);
+        pairs = λ n p q. pairs_are n free i (i + j) p q
+            ∙ sym (merge_pair-lowest h free none
+            ∙ (ap (second_of h) (take_at (has_height h) free i f)
+            ∙ ap (with_lower (get_or free i (section 0 0)))
+            (take_at (has_height h) (without_at i free) (i + j) k)));
+      }
 
   -- of two of the height one is left
-  next_there : next < length (without_at low free)
-  next_there =
-      let p = subst (TakesOf (has_height h) free) first (take_first_is (has_height h) free) in
-      place_there h (without_at low free) (omega (
-        arith,
-        two,
-        takes_sum (of_height h) p,
-        of_height_same h (get_or free low (section 0 0)) (takes_height p),
-      ))
+  one_left : (free : List Section) (i : ℕ) → FirstAt (has_height h) free i
+      → count_of h free ≡ 1 + count_of h (without_at i free)
+  one_left free i f =
+      let t = subst (TakesOf (has_height h) free) (take_at (has_height h) free i f) (take_first_is (has_height h) free) in
+      omega (arith, takes_sum (of_height h) t, of_height_same h (get_or free i (section 0 0)) (takes_height t))
 
-  two-lowest : PairPlaces h free low next
-  unfolding lowest_two
-  two-lowest = record {
-    lower = low_there;
-    upper = omega (arith, next_there, without-length low free low_there);
-    pairs = λ n p q. pairs_are n free low next p q
-        ∙ sym (merge_pair-lowest h free none
-        ∙ (ap (second_of h) first
-        ∙ ap (with_lower (get_or free low (section 0 0)))
-        (take_at (has_height h) (section 0 0) (without_at low free) next_there)));
-  }
+  module _ (l : List Piece) where
+    abbrev place : List Piece → Option ℕ
+    place k = position (λ x. has_height h (section_in x)) k
 
-  -- the lowest of the height, and the lowest behind it
-  pub lowest-places : (i j : ℕ) → i ≡ low → j ≡ i + 1 + first_place (has_height h) (drop (i + 1) free)
-      → PairPlaces h free i (j - 1)
-  lowest-places i j e f =
-      let k : i + 1 ≡ suc low = omega arith in
-      let behind = ap (λ z. z + first_place (has_height h) (drop z free)) k in
-      let z : j - 1 ≡ next = omega (arith, f, behind, place_next (has_height h) free low_there) in
-      places_same two-lowest e z
+    -- the places of the lowest of a height, and of the next one once that is out
+    abbrev pub two_places : Option (ℕ × ℕ)
+    two_places = option_and_then (λ i. option_map {U = ℕ × ℕ} (λ j. (i, i + j)) (place (drop (i + 1) l))) (place l)
+
+    behind : (i : ℕ) → drop (i + 1) (seen l) ≡ seen (drop (i + 1) l)
+    behind i = seen-drop (i + 1) l
+
+    pub two_places_there : 1 < count_of h (seen l) → two_places ≡ None → ⊥
+    two_places_there two e = go (place l) refl e
+      where
+        second : (i : ℕ) → FirstAt (has_height h) (seen l) i → (o : Option ℕ) → place (drop (i + 1) l) ≡ o
+            → option_map {U = ℕ × ℕ} (λ j. (i, i + j)) o ≡ None → ⊥
+        second i f (Some j) q e = cc
+        second i f None q e =
+            let rest = nothing-found (has_height h) (drop (i + 1) l) q ∙ ap (take_first (has_height h)) (sym (behind i)) in
+            omega (
+              arith,
+              two,
+              one_left (seen l) i f,
+              count_nothing (without_at i (seen l)) (sym (none-next (has_height h) (seen l) i f rest)),
+            )
+
+        go : (o : Option ℕ) → place l ≡ o
+            → option_and_then (λ i. option_map {U = ℕ × ℕ} (λ j. (i, i + j)) (place (drop (i + 1) l))) o ≡ None → ⊥
+        go (Some i) q e = second i (first-found (has_height h) l i q) (place (drop (i + 1) l)) refl e
+        go None q e = omega (arith, two, count_nothing (seen l) (nothing-found (has_height h) l q))
+
+    pub two_places_are : buddy_pair h (seen l) ≡ fewer → (r : ℕ × ℕ) → two_places ≡ Some r
+        → PairPlaces h (seen l) r.0 r.1
+    two_places_are none r e = go (place l) refl e
+      where
+        second : (i : ℕ) → FirstAt (has_height h) (seen l) i → (o : Option ℕ) → place (drop (i + 1) l) ≡ o
+            → option_map {U = ℕ × ℕ} (λ j. (i, i + j)) o ≡ Some r → PairPlaces h (seen l) r.0 r.1
+        second i f (Some j) q e =
+            let s : ◌≡◌ {A = ℕ × ℕ} (i, i + j) r = cc in
+            subst (λ (z : ℕ × ℕ). PairPlaces h (seen l) z.0 z.1) s
+            (lowest-places (seen l) none i j f
+            (subst (λ k. FirstAt (has_height h) k j) (sym (behind i)) (first-found (has_height h) (drop (i + 1) l) j q)))
+        second i f None q e = cc
+
+        go : (o : Option ℕ) → place l ≡ o
+            → option_and_then (λ i. option_map {U = ℕ × ℕ} (λ j. (i, i + j)) (place (drop (i + 1) l))) o ≡ Some r
+            → PairPlaces h (seen l) r.0 r.1
+        go (Some i) q e = second i (first-found (has_height h) l i q) (place (drop (i + 1) l)) refl e
+        go None q e = cc

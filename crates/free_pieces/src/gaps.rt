@@ -13,11 +13,9 @@ pub fn gap_before(whole: Section, at: u32, s: Section) -> Gap
     ensures { Gaps whole at s result }
 {
     if s.is_inside(whole) {
-        let first = s.first;
-        let past = s.end();
         return Gap {
-            count: first - at,
-            past,
+            count: s.first - at,
+            past: s.end(),
         };
     }
     Gap { count: 0, past: at }
@@ -29,24 +27,16 @@ impl Pair {
         requires { PairFits self }
         ensures { result ≡ length (pair_copies self) }
     {
-        let lower = self.lower;
-        let upper = self.upper;
-        let buddy = lower.buddy();
-        if buddy.first == upper.first {
+        let buddy = self.lower.buddy();
+        if buddy.first == self.upper.first {
             return 0;
         }
-        let others = self.others;
-        let m = others.count;
         let mut at = buddy.first;
         let mut n: u32 = 0;
-        let mut j: usize = 0;
-        while j < m {
-            let piece = others.items[j];
-            let s = piece.section();
-            let gap = gap_before(buddy, at, s);
+        for piece in self.others.as_slice() {
+            let gap = gap_before(buddy, at, piece.section());
             n += gap.count;
             at = gap.past;
-            j += 1;
         }
         n + (buddy.end() - at)
     }

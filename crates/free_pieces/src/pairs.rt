@@ -1,14 +1,17 @@
-// The two free pieces to merge, of the lowest height that has two: two that are buddies, else the two lowest. A list
-// that is passed on is copied, so both are found by their places first, and then taken together.
-ghost use Rattle.std.specs.Prelude.{◌&&◌, ◌≡◌, ◌+◌, ◌<◌, ◌≤◌, drop};
+// The two free pieces to merge, of the lowest height that has two: two that are buddies, else the two lowest. Both are
+// found by their places first, and then taken together.
+ghost use Rattle.std.specs.Prelude.{count_by, drop, nat_lt, option_and_then, option_map, ◌&&◌, ◌+◌, ◌<◌, ◌≡◌, ◌≤◌};
+ghost use Rattle.std.specs.List.{find, position, range_with_len};
 ghost use Rattle.section.specs.Limits.{greatest_height, height_count};
 ghost use Rattle.layout.specs.Layout.{InOrder, has_height};
-ghost use Rattle.layout.specs.Removing.{has_free_buddy, is_buddy_above};
-ghost use Rattle.piece_lists.specs.Places.{IsPlace, first_place};
+ghost use Rattle.layout.specs.Removing.{is_buddy_above};
+ghost use Rattle.piece.specs.Packed.{section_in};
 ghost use Rattle.free_pieces.specs.Free.{free_places, free_of, Pairs, lowest_pair};
-ghost use Rattle.free_pieces.specs.Pairs.{HeightDue, PairsAt};
+ghost use Rattle.free_pieces.specs.Pairs.{FirstBuddies, PairsAt};
 
+use super::lists::place_of_height;
 use crate::{Free, Pair};
+use piece::Piece;
 use piece_lists::remove_at;
 use section::{Height, Section};
 
@@ -17,86 +20,47 @@ fn are_buddies(h: u32, l: Section, u: Section) -> bool
     requires { h ≤ greatest_height }
     ensures { result ≡ (has_height h l && is_buddy_above l u) }
 {
-    let low = l.height;
-    if low.value != h {
-        return false;
-    }
-    let high = u.height;
-    if high.value != h {
-        return false;
-    }
-    let buddy = l.buddy();
-    if u.first != buddy.first {
-        return false;
-    }
-    l.first < u.first
+    l.height.value == h && u == l.buddy() && l.first < u.first
+}
+
+// How many pieces have height `h`.
+fn count_of_height(pieces: &[Piece], h: u32) -> usize
+    ensures { result ≡ count_by (λ x. has_height h (section_in x)) pieces.now }
+{
+    pieces.iter().filter(|piece| piece.height() == h).count()
+}
+
+// The lowest height that has two pieces, if one has.
+fn height_due(pieces: &[Piece]) -> Option<u32>
+    ensures { result ≡ find
+        (λ h. nat_lt 1 (count_by (λ x. has_height h (section_in x)) pieces.now)) (range_with_len 0 height_count) }
+{
+    (0..Height::COUNT).find(|h| 1 < count_of_height(pieces, *h))
+}
+
+// Where the first piece stands that has height `h` and its buddy above it right behind it. No buddy stands anywhere
+// else, if the pieces are in order.
+fn place_of_buddies(pieces: &[Piece], h: u32) -> Option<usize>
+    requires { h ≤ greatest_height }
+    ensures { FirstBuddies h pieces.now result }
+{
+    pieces
+        .windows(2)
+        .position(|two| are_buddies(h, two[0].section(), two[1].section()))
+}
+
+// Where the lowest piece of height `h` stands, and the next one once that is out.
+fn places_of_lowest(pieces: &[Piece], h: u32) -> Option<(usize, usize)>
+    ensures { result ≡ option_and_then
+        (λ i. option_map (λ j. (i, i + j)) (position (λ x. has_height h (section_in x)) (drop (i + 1) pieces.now)))
+        (position (λ x. has_height h (section_in x)) pieces.now) }
+{
+    let low = place_of_height(pieces, h)?;
+    let next = place_of_height(&pieces[low + 1..], h)?;
+    Some((low, low + next))
 }
 
 impl Free {
-    // The lowest height that has two pieces, or one past the greatest.
-    fn height_due(self) -> u32
-        requires { self.count ≤ free_places }
-        ensures { HeightDue (free_of self) result }
-    {
-        let m = self.count;
-        let mut h: u32 = 0;
-        'heights: while h <= Height::GREATEST {
-            let mut n: usize = 0;
-            let mut j: usize = 0;
-            'pieces: while j < m {
-                let piece = self.items[j];
-                if piece.height() == h {
-                    n += 1;
-                }
-                j += 1;
-            }
-            if 1 < n {
-                return h;
-            }
-            h += 1;
-        }
-        h
-    }
-
-    // The first place whose piece has height `h` and its buddy above it right behind it, or the end. No buddy stands
-    // anywhere else, since the pieces are in order.
-    fn place_of_buddies(self, h: u32) -> usize
-        requires count_le_free_places { self.count ≤ free_places }
-        requires in_order { InOrder (free_of self) }
-        requires h_le_greatest_height { h ≤ greatest_height }
-        ensures { IsPlace self.count (first_place (has_free_buddy h (free_of self)) (free_of self)) result }
-    {
-        let m = self.count;
-        let mut place: usize = 0;
-        while place + 1 < m {
-            let l = self.items[place];
-            let u = self.items[place + 1];
-            if are_buddies(h, l.section(), u.section()) {
-                return place;
-            }
-            place += 1;
-        }
-        m
-    }
-
-    // The first place from `from` on whose piece has height `h`, or the end.
-    fn place_from(self, h: u32, from: usize) -> usize
-        requires count_le_free_places { self.count ≤ free_places }
-        requires from_le_count { from ≤ self.count }
-        ensures { IsPlace self.count (from + first_place (has_height h) (drop from (free_of self))) result }
-    {
-        let m = self.count;
-        let mut place = from;
-        while place < m {
-            let piece = self.items[place];
-            if piece.height() == h {
-                return place;
-            }
-            place += 1;
-        }
-        place
-    }
-
     // The piece at place `low`, the one at place `next` of the others, and those that are left.
     fn pair_at(self, low: usize, next: usize) -> Pair
         requires count_le_free_places { self.count ≤ free_places }
@@ -126,16 +90,12 @@ impl Free {
         requires in_order { InOrder (free_of self) }
         ensures { Pairs self.count (lowest_pair height_count 0 (free_of self)) result }
     {
-        let h = self.height_due();
-        if Height::GREATEST < h {
-            return None;
-        }
-        let mut low = self.place_of_buddies(h);
-        let mut next = low;
-        if self.count <= low {
-            low = self.place_from(h, 0);
-            next = self.place_from(h, low + 1) - 1;
-        }
+        let pieces = self.as_slice();
+        let h = height_due(pieces)?;
+        let (low, next) = match place_of_buddies(pieces, h) {
+            Some(low) => (low, low),
+            None => places_of_lowest(pieces, h)?,
+        };
         Some(self.pair_at(low, next))
     }
 }

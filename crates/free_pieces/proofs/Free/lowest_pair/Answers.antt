@@ -1,97 +1,82 @@
 -- `Free::lowest_pair` takes the pair of the lowest height that has two, as the definition does: at the places where
 -- the two stand. Assumes nothing.
-use mathlib.Core.Path.{◌∙◌, ◌≡◌}
-use Prim.Native.Nat.{◌+◌, ◌-◌}
-use native.Mathlib.Omega.{arith}
-use lib.ListN.{length}
-use borrow.Author.Rules.{rules}
+use Rattle.std.proofs.Common.{◌∙◌, ap, arith, length, subst, sym}
+use Rattle.std.specs.Prelude.{nat_lt}
+use Rattle.std.proofs.lemmas.List.{length-take}
+use Rattle.layout.specs.Layout.{InOrder}
 use Rattle.section.specs.Limits.{height_count}
-use Rattle.layout.specs.Layout.{has_height}
-use Rattle.piece_lists.proofs.Arrays.{length_of_mapped, place_all}
-use Rattle.free_pieces.proofs.BuddyPlaces.{buddies_places, no_buddies}
-use Rattle.free_pieces.proofs.Draws.{pair_end, pair_here}
-use Rattle.free_pieces.proofs.PairPlaces.{PairPlaces, free-length, low_there, lowest-places, places_same}
-use Rattle.free_pieces.specs.Free.{free_of, free_places}
+use Rattle.piece.proofs.Seen.{seen-length}
+use Rattle.piece.specs.Packed.{seen}
+use Rattle.free_pieces.proofs.BuddyPlaces.{buddies_are, no_buddies}
+use Rattle.free_pieces.proofs.DueHeights.{DueAt, count_seen, none_due, one_due}
+use Rattle.free_pieces.proofs.PairPlaces.{PairPlaces, two_places_are, two_places_there}
+use Rattle.free_pieces.specs.Free.{lowest_pair}
+use Rattle.free_pieces.specs.Pairs.{PairsAt}
+use Rattle.free_pieces.proofs.Free.lowest_pair.Goals.{In_ok-h, Joined-place_of_buddies}
+use Rattle.free_pieces.proofs.Free.lowest_pair.Goals.{in-Some, in-None+in_ok-low-in-None}
 use Rattle.free_pieces.proofs.Free.lowest_pair.Goals as goal
-use Rattle.free_pieces.proofs.Free.lowest_pair.Goals.{else-self-low, then-self-low}
 
-pub returns-then-h-gt-GREATEST : goal.returns-then-h-gt-GREATEST
-returns-then-h-gt-GREATEST c =
-    let a = c.args.self in
-    let h = c.height_due-h.result in
-    record {
-      meaning =
-          pair_end (height_count - h) h (free_of a) (omega (arith, c.if-h-gt-GREATEST.true)) ∙ c.height_due-h.ensures.here;
+pub returns-in_err-h : goal.returns-in_err-h
+returns-in_err-h c =
+    let l = c.as_slice-pieces.result.now in
+    rw c.from_residual.ensures record {
+      meaning = sym (ap (lowest_pair height_count 0) (sym c.as_slice-pieces.ensures.listed)
+          ∙ none_due (seen l) _ (λ h. ap (nat_lt 1) (sym (count_seen h l))) height_count 0
+          (sym c.height_due.ensures ∙ c.in_err-h.was));
       exact = tt;
       less = tt;
     }
 
-pub place_from-next-requires : goal.place_from-next-requires
-place_from-next-requires c =
-    let a = c.args.self in
-    let d = c.height_due-h in
-    let e : length a.items ≡ free_places = search (rules, length_of_mapped) in
-    let n = free-length a e c.requires.count_le_free_places in
-    let two = d.ensures.two (omega (arith, c.if-h-gt-GREATEST.false)) in
-    let none = no_buddies d.result (free_of a)
-    (omega (arith, n, c.place_of_buddies-low.ensures.place, c.if-self-low.true)) in
-    let low = place_all (has_height d.result) (free_of a) 0 _ c.place_from-low.ensures.place (omega arith) in
-    record {
-      count_le_free_places = c.requires.count_le_free_places;
-      from_le_count = omega (arith, low, low_there d.result (free_of a) none two, n);
-    }
+-- the height that is due
+due : (c : In_ok-h) → DueAt (seen c.as_slice-pieces.result.now) height_count 0 c.in_ok-h.h
+due c =
+    let l = c.as_slice-pieces.result.now in
+    one_due (seen l) _ (λ h. ap (nat_lt 1) (sym (count_seen h l))) height_count 0 c.in_ok-h.h
+    (sym c.height_due.ensures ∙ c.in_ok-h.was)
+
+pub place_of_buddies-requires : goal.place_of_buddies-requires
+place_of_buddies-requires c = omega (arith, (due c).most)
+
+pub returns-in_err-low-in-None : goal.returns-in_err-low-in-None
+returns-in_err-low-in-None c =
+    let d = due (goal.at.returns-in_err-low-in-None c).In_ok-h in
+    absurd (two_places_there _ _ d.some (sym c.places_of_lowest.ensures ∙ c.in_err-low-in-None.was))
 
 -- where the pair is taken, the two stand
+at : (c : Joined-place_of_buddies) → DueAt (seen c.as_slice-pieces.result.now) height_count 0 c.in_ok-h.h
+    → PairPlaces c.in_ok-h.h (seen c.as_slice-pieces.result.now) c.match-place_of_buddies.low.0 c.match-place_of_buddies.low.1
+at c d =
+    let h = c.in_ok-h.h in
+    let l = c.as_slice-pieces.result.now in
+    let ord = subst InOrder (sym c.as_slice-pieces.ensures.listed) c.requires.in_order in
+    elim c.match-place_of_buddies.branch [
+      | in-Some w ↦ rw w.low-is (buddies_are h l ord _ w.in-Some.ensures)
+      | in-None+in_ok-low-in-None w ↦ rw w.low-is
+          (two_places_are h l (no_buddies h l ord w.in-None.ensures) _
+          (sym w.places_of_lowest.ensures ∙ w.in_ok-low-in-None.was))
+    ]
+
 pub pair_at-requires : goal.pair_at-requires
 pair_at-requires c =
-    let a = c.args.self in
-    let free = free_of a in
-    let h = c.height_due-h.result in
-    let e : length a.items ≡ free_places = search (rules, length_of_mapped) in
-    let n = free-length a e c.requires.count_le_free_places in
-    let b = c.place_of_buddies-low.ensures.place in
-    let at = elim c.if-self-low.branch as (λ _. PairPlaces h free c.if-self-low.low c.if-self-low.next) [
-      | then-self-low w ↦ places_same
-          (lowest-places h free (no_buddies h free (omega (arith, n, b, w.if-self-low.true)))
-          (c.height_due-h.ensures.two (omega (arith, c.if-h-gt-GREATEST.false))) w.place_from-low.result
-          w.place_from-next.result (place_all (has_height h) free 0 _ w.place_from-low.ensures.place (omega arith))
-          w.place_from-next.ensures.place)
-          w.low-is w.next-is
-      | else-self-low w ↦ places_same
-          (buddies_places h free c.requires.in_order (omega (arith, n, b, w.if-self-low.false)))
-          (w.low-is ∙ b) (w.next-is ∙ b)
-    ] in
+    let p = at c (due (goal.at.pair_at-requires c).In_ok-h) in
+    let l = c.as_slice-pieces in
+    let n = seen-length l.result.now ∙ ap length l.ensures.words ∙ length-take c.args.self.count c.args.self.items in
     record {
       count_le_free_places = c.requires.count_le_free_places;
-      low_lt_count = omega (arith, at.lower, n);
-      next_bound = omega (arith, at.upper, n);
+      low_lt_count = omega (arith, p.lower, n);
+      next_bound = omega (arith, p.upper, n);
     }
 
 pub returns : goal.returns
 returns c =
-    let a = c.args.self in
-    let free = free_of a in
-    let h = c.height_due-h.result in
-    let e : length a.items ≡ free_places = search (rules, length_of_mapped) in
-    let n = free-length a e c.requires.count_le_free_places in
-    let b = c.place_of_buddies-low.ensures.place in
-    let at = elim c.if-self-low.branch as (λ _. PairPlaces h free c.if-self-low.low c.if-self-low.next) [
-      | then-self-low w ↦ places_same
-          (lowest-places h free (no_buddies h free (omega (arith, n, b, w.if-self-low.true)))
-          (c.height_due-h.ensures.two (omega (arith, c.if-h-gt-GREATEST.false))) w.place_from-low.result
-          w.place_from-next.result (place_all (has_height h) free 0 _ w.place_from-low.ensures.place (omega arith))
-          w.place_from-next.ensures.place)
-          w.low-is w.next-is
-      | else-self-low w ↦ places_same
-          (buddies_places h free c.requires.in_order (omega (arith, n, b, w.if-self-low.false)))
-          (w.low-is ∙ b) (w.next-is ∙ b)
-    ] in
+    let d = due (goal.at.returns c).In_ok-h in
+    let p = at (goal.at.returns c).Joined-place_of_buddies d in
+    let l = c.as_slice-pieces.ensures.listed in
     let r = c.pair_at in
+    let two = c.match-place_of_buddies.low in
+    let taken = subst (λ f. PairsAt c.args.self.count f two.0 two.1 r.result) (sym l) r.ensures in
     record {
-      meaning =
-          pair_here (height_count - (h + 1)) h free r.result (at.pairs _ r.result r.ensures) (height_count - h)
-          (omega (arith, c.if-h-gt-GREATEST.false))
-          ∙ c.height_due-h.ensures.here;
+      meaning = d.here _ _ _ (p.pairs _ _ taken) ∙ ap (lowest_pair height_count 0) l;
       exact = r.ensures.exact;
       less = r.ensures.less;
     }

@@ -1,58 +1,40 @@
--- `Pair::copies` meets its contract: after `j` turns the blocks before the first `j` pieces are counted. Assumes
--- nothing.
-use mathlib.Core.Path.{◌∙◌, ap, sym}
-use Prim.Native.Nat.{◌+◌, ◌-◌}
-use native.Mathlib.Omega.{arith}
-use lib.ListN.{length}
+-- `Pair::copies` meets its contract: after some turns the blocks before as many pieces are counted. Assumes nothing.
+use Rattle.std.proofs.Common.{◌+◌, ◌-◌, ◌<◌, ◌≡◌, ◌≤◌, ◌∙◌, ap, arith, get_or, length, sym}
+use Rattle.std.proofs.lemmas.List.{length-take}
+use Rattle.piece.specs.Packed.{no_piece, section_in}
+use Rattle.free_pieces.proofs.GapSteps.{copies_gaps, counting_end, counting_gap, counting_more, counting_start, read_at}
 use Rattle.free_pieces.specs.Free.{free_of}
-use Rattle.free_pieces.proofs.GapSteps.{copies_gaps, copies-none, counting_end, counting_gap, counting_more}
-use Rattle.free_pieces.proofs.GapSteps.{counting_start}
+use Rattle.free_pieces.proofs.Pair.copies.Goals.{After-section}
 use Rattle.free_pieces.proofs.Pair.copies.Goals as goal
 
-pub returns-then-buddy-upper : goal.returns-then-buddy-upper
-returns-then-buddy-upper c =
-    sym (ap length (copies-none c.args.self c.buddy-buddy.result c.buddy-buddy.ensures (omega (arith, c.if-buddy-upper.true))))
+pub loop-piece-init : goal.loop-piece-init
+loop-piece-init c = counting_start c.args.self c.buddy-buddy.result c.requires c.buddy-buddy.ensures
 
-pub loop-j-init : goal.loop-j-init
-loop-j-init c =
-    counting_start c.args.self c.buddy-buddy.result c.requires c.buddy-buddy.ensures
+-- the piece that is looked at
+read : (c : After-section) → (c.loop-piece.piece-index < c.args.self.others.count)
+    × (c.section.result ≡ section_in (get_or c.args.self.others.items c.loop-piece.piece-index no_piece))
+read c =
+    read_at c.args.self.others.items _ c.args.self.others.count _ _ c.as_slice-piece-items.ensures.words
+    c.loop-piece-test.true c.section.ensures
 
 pub gap_before-gap-requires : goal.gap_before-gap-requires
 gap_before-gap-requires c =
-    let whole = (counting_gap _ _ _ _ _ _ c.loop-j.invariant _ (omega (arith, c.loop-j-test.true)) c.section-s.ensures) in
-    record {
-      addressable = whole.0;
-      at_le_first = whole.1;
-    }
+    let r = read c in
+    let g = counting_gap _ _ _ _ _ _ c.loop-piece.invariant _ r.0 r.1 in
+    record { addressable = g.0; at_le_first = g.1 }
 
-pub overflow_add-n : goal.overflow_add-n
-overflow_add-n c =
-    let k = c.loop-j.invariant in
-    let next = counting_more _ _ _ _ _ _ k _ (omega (arith, c.loop-j-test.true)) c.section-s.ensures
-    c.gap_before-gap.result c.gap_before-gap.ensures in
-    omega (arith, next.bounded, next.left.high, k.served)
-
-pub loop-j-preserved : goal.loop-j-preserved
-loop-j-preserved c =
-    counting_more _ _ _ _ _ _ c.loop-j.invariant _ (omega (arith, c.loop-j-test.true))
-    c.section-s.ensures c.gap_before-gap.result c.gap_before-gap.ensures
-
-pub end-requires : goal.end-requires
-end-requires c = c.loop-j.invariant.served
-
-pub overflow_sub-result : goal.overflow_sub-result
-overflow_sub-result c = omega (arith, c.end.ensures, c.loop-j.invariant.left.high)
-
-pub overflow_add-result : goal.overflow_add-result
-overflow_add-result c =
-    let k = c.loop-j.invariant in
-    omega (arith, c.end.ensures, k.left.high, k.bounded, k.served)
+pub loop-piece-preserved : goal.loop-piece-preserved
+loop-piece-preserved c =
+    let r = read (goal.at.loop-piece-preserved c).After-section in
+    counting_more _ _ _ _ _ _ c.loop-piece.invariant _ r.0 r.1 c.gap_before-gap.result c.gap_before-gap.ensures
 
 pub returns : goal.returns
 unfolding free_of
 returns c =
     let p = c.args.self in
-    ap (λ z. c.loop-j.n + (z - c.loop-j.at)) c.end.ensures
-    ∙ (counting_end _ _ _ _ _ _ c.loop-j.invariant (omega (arith, c.loop-j-test.false)) p.upper.first
-    ∙ sym (ap length (copies_gaps p c.buddy-buddy.result c.buddy-buddy.ensures
-    (λ z. omega (arith, c.if-buddy-upper.false, z)))))
+    let l = c.as_slice-piece-items in
+    let n = ap length l.ensures.words ∙ length-take p.others.count p.others.items in
+    let all : p.others.count ≤ c.loop-piece.piece-index = omega (arith, c.loop-piece-test.false, c.loop-piece.invariant.within, n) in
+    ap (λ z. c.loop-piece.n + (z - c.loop-piece.at)) c.end.ensures
+    ∙ counting_end _ _ _ _ _ _ c.loop-piece.invariant all p.upper.first
+    ∙ sym (ap length (copies_gaps p c.buddy-buddy.result c.buddy-buddy.ensures c.if-buddy-self.false))

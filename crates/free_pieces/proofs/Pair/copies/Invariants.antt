@@ -1,11 +1,6 @@
--- `Pair::copies` meets its contract: after `j` turns the blocks before the first `j` pieces are counted. Assumes
--- nothing.
-use Prim.Native.Nat.{◌-◌}
+-- `Pair::copies` meets its contract: after some turns the blocks before as many pieces are counted. Assumes nothing.
 use Rattle.free_pieces.proofs.GapSteps.{Counting}
 use Rattle.free_pieces.proofs.Pair.copies.Given as goal
 
-abbrev pub invariant-loop-j : goal.invariant-loop-j
-invariant-loop-j l = Counting l.buddy l.others.items l.m l.at l.n l.j
-
-abbrev pub decreases-loop-j : goal.decreases-loop-j
-decreases-loop-j l = l.m - l.j
+abbrev pub invariant-loop-piece : goal.invariant-loop-piece
+invariant-loop-piece l = Counting l.buddy l.fn.self.others.items l.fn.self.others.count l.at l.n l.piece-index

@@ -1,6 +1,5 @@
 -- Laws of choices, and the proofs of the functions.
 pub mod IdPlaces
 pub mod CountedCopies
-pub mod RankedNone
 pub mod ChoosingSteps
 pub mod WhichJudged

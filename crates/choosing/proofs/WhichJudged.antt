@@ -2,12 +2,13 @@
 -- nothing.
 use mathlib.Core.Bool.{not}
 use mathlib.Core.List.{List, [], map}
-use mathlib.Core.Path.{◌∙◌, ◌≡◌, ap, sym}
+use mathlib.Core.Path.{◌∙◌, ◌≡◌, ap, refl, sym}
 use Prim.Native.Nat.{◌<◌, ◌≤◌, ℕ}
-use lib.ListN.{length}
+use lib.ListN.{length, length-map, take}
 use borrow.Author.Tests.{eq-eqb, le-leb, lt-leb, ne_eqb}
 use Rattle.section.specs.Limits.{height_count, most_files}
 use Rattle.layout.proofs.Helping.{helping_sorted}
+use Rattle.layout.proofs.Zipped.{map-map}
 use Rattle.layout.specs.Helping.{Candidate, helping_ids}
 use Rattle.layout.specs.Layout.{Layout, free_blocks}
 use Rattle.layout.specs.Lists.{done, more}
@@ -19,8 +20,9 @@ use Rattle.table.specs.Tables.{layout_of}
 use Rattle.table.specs.declared.Table.{Table}
 use Rattle.choosing.specs.Choosing.{Chosen, which_on}
 use Rattle.choosing.specs.Listing.{ids_in}
+use Rattle.choosing.specs.Ranking.{candidate_in, candidates_in}
+use Rattle.choosing.specs.declared.Choice.{Choice}
 use Rattle.choosing.specs.declared.Choices.{Choices}
-use Rattle.choosing.proofs.IdPlaces.{ids-length}
 
 module _ (l : Layout) (n : ℕ) (o : List ℕ) where
   -- the reply r and the list o' are those of `which`
@@ -70,8 +72,15 @@ module _ (l : Layout) (n : ℕ) (o : List ℕ) where
 
 -- the ids of the choices are those of the definition, and as many
 module _ (t : Table) (n : ℕ) (all : Choices) (c : Chosen t n all) where
-  pub chosen_ids : ids_in all ≡ helping_ids height_count n (layout_of t)
-  chosen_ids = ap (map (λ (a : Candidate). a.id)) c.list ∙ sym (helping_sorted height_count n (layout_of t))
+  sorted_ids : map (λ (a : Candidate). a.id) (candidates_in all) ≡ helping_ids height_count n (layout_of t)
+  sorted_ids = ap (map (λ (a : Candidate). a.id)) c.list ∙ sym (helping_sorted height_count n (layout_of t))
+
+  pub chosen_ids : ids_in (take all.count all.items) ≡ helping_ids height_count n (layout_of t)
+  unfolding candidates_in
+  chosen_ids =
+      map-map (λ (a : Candidate). a.id) candidate_in (λ (x : Choice). x.id) (λ x. refl) (take all.count all.items)
+      ∙ sorted_ids
 
   pub chosen_count : all.count ≡ length (helping_ids height_count n (layout_of t))
-  chosen_count = sym (ids-length all c.listable) ∙ ap length chosen_ids
+  chosen_count =
+      sym c.exact ∙ (sym (length-map (candidates_in all) (λ (a : Candidate). a.id)) ∙ ap length sorted_ids)

@@ -1,6 +1,6 @@
 -- What choosing among the files of a table promises, and `which` past the catalogue. Definitions only.
-use Rattle.std.specs.Prelude.{List, ◌≡◌, ℕ}
-use Rattle.section.specs.Limits.{height_count}
+use Rattle.std.specs.Prelude.{List, ◌≡◌, ℕ, ◌≤◌, length, take}
+use Rattle.section.specs.Limits.{height_count, most_files}
 use Rattle.layout.specs.Helping.{by_copies, candidates_of}
 use Rattle.layout.specs.Layout.{Layout}
 use Rattle.layout.specs.Lists.{sort_by}
@@ -15,7 +15,9 @@ use Rattle.choosing.specs.declared.Choices.{Choices}
 -- r has the files of t that let n blocks in, in their order
 pub record Chosen (t : Table) (n : ℕ) (r : Choices) : Type 0 where
   pub list : candidates_in r ≡ sort_by by_copies (candidates_of height_count n (layout_of t) (layout_of t).files)
-  pub listable : Listable r
+  pub most : r.count ≤ most_files
+  pub exact : length (candidates_in r) ≡ r.count
+  pub listable : Listable (take r.count r.items)
 
 -- the outcome of `which` past the catalogue, for any catalogue bytes and any disk
 abbrev pub which_on : Layout → ℕ → List ℕ → List ℕ → List ℕ → Outcome

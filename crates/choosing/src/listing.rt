@@ -4,16 +4,15 @@ ghost use Rattle.section.specs.Limits.{most_files};
 ghost use Rattle.manager.specs.Outcomes.{then_zeros};
 ghost use Rattle.choosing.specs.Listing.{Listable, ids_in};
 
-use crate::Choices;
-use section::Section;
+use crate::Choice;
 
 // Writes the ids in their order, then zeros.
-pub fn write_ids(places: &mut [u16], all: Choices)
-    requires { (length places.old ≡ most_files) × (Listable all) }
-    ensures { places.new ≡ then_zeros (ids_in all) }
+pub fn write_ids(places: &mut [u16], choices: &[Choice])
+    requires { (length places.old ≡ most_files) × (Listable choices.now) }
+    ensures { places.new ≡ then_zeros (ids_in choices.now) }
 {
     places.fill(0);
-    for (i, choice) in all.items[..all.count].iter().enumerate() {
+    for (i, choice) in choices.iter().enumerate() {
         places[i] = choice.id as u16;
     }
 }

@@ -47,10 +47,10 @@ pub fn which_in(t: Table, n: u64, places: &mut [u16]) -> Answer
     }
     let free = free_in(t);
     if n <= free as u64 {
-        write_ids(places, Choices::none());
+        places.fill(0);
         return Ok(Answered::FitsAlready);
     }
     let all = choices_for(t, n, free);
-    write_ids(places, all);
+    write_ids(places, &all.items[..all.count]);
     Ok(Answered::Number(all.count as u32))
 }

@@ -6,4 +6,4 @@ use Rattle.choosing.specs.Listing.{ids_in}
 use Rattle.choosing.proofs.listing.write_ids.Given as goal
 
 abbrev pub invariant-loop-i : goal.invariant-loop-i
-invariant-loop-i l = l.places ≡ then_zeros (take l.i (ids_in l.fn.all))
+invariant-loop-i l = l.places ≡ then_zeros (take l.i (ids_in l.choices))

@@ -1,10 +1,9 @@
 -- Lists of few pieces, and what the functions on them promise. Definitions only.
-use Rattle.std.specs.Prelude.{◌≡◌, Bool, List, ℕ, ◌+◌, ◌≤◌, drop, length, take}
+use Rattle.std.specs.Prelude.{◌≡◌, List, ℕ, ◌≤◌, drop, length, take}
 use Rattle.std.specs.List.{sum_by, zip}
 use Rattle.section.specs.Limits.{height_count}
 use Rattle.section.specs.declared.Section.{Section}
 use Rattle.layout.specs.Layout.{break_between}
-use Rattle.layout.specs.Lists.{insert_by}
 use Rattle.piece.specs.Packed.{section_in, seen}
 use Rattle.piece.specs.declared.Piece.{Piece}
 use Rattle.piece_lists.specs.declared.Pieces.{Pieces}
@@ -31,7 +30,3 @@ pub record ListsFew (n : ℕ) (l : List Section) (r : Pieces) : Type 0 where
   pub list : list_of r ≡ l
   pub exact : length l ≡ n
   pub few : n ≤ piece_places
-
--- with the piece put in the order le among the first n sections of k, those of r
-abbrev pub Inserts : ℕ → (Section → Section → Bool) → Piece → List Piece → List Piece → Type 0
-Inserts n le p k r = take (n + 1) (seen r) ≡ insert_by le (section_in p) (take n (seen k))

@@ -12,7 +12,6 @@ pub use few::in_places;
 use piece::Piece;
 pub use places::{insert_at, remove_at};
 use section::Height;
-pub use sorting::insert_in_order;
 
 mod breaks;
 mod few;

@@ -21,9 +21,8 @@ use Rattle.answers.specs.declared.Refusal.{Refusal}
 use Rattle.catalogue.specs.Encoding.{encode}
 use Rattle.catalogue.specs.declared.Version.{Version}
 use Rattle.layout.specs.Layout.{Layout, free_blocks, has_file}
-use Rattle.layout.specs.Moves.{right}
 use Rattle.layout.specs.Sound.{greatest_id}
-use Rattle.manager.specs.Conditions.{Outcome, answered, first_refusal, outcome, refusal, refused, unless_refused}
+use Rattle.manager.specs.Conditions.{Outcome, answered, first_refusal, outcome, refusal, unless_refused}
 use Rattle.manager.specs.Conditions.{wrong_disk}
 use Rattle.manager.specs.Disk.{page_count}
 use Rattle.manager.specs.Outcomes.{add_pieces}

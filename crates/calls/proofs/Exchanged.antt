@@ -1,6 +1,5 @@
 -- A file taken out and another of its id placed: what placing asks for of the table that is left, and the outcome of
 -- both. Assumes nothing.
-use mathlib.Core.Bool.{true}
 use mathlib.Core.List.{List, []}
 use mathlib.Core.Path.{◌∙◌, ◌≡◌, ap, ap₂, subst, sym}
 use Prim.Native.Nat.{◌*◌, ℕ}
@@ -21,7 +20,6 @@ use Rattle.layout.specs.Adding.{allocate}
 use Rattle.layout.specs.Layout.{Layout}
 use Rattle.layout.specs.Removing.{copies_of}
 use Rattle.looking.proofs.FreeSum.{opened_sums}
-use Rattle.answers.specs.declared.Refusal.TheVariants as Refusal·
 use Rattle.manager.proofs.CanReplace.{replace_allowed}
 use Rattle.manager.specs.Changes.{without}
 use Rattle.manager.specs.Conditions.{Outcome, answered, outcome, unless_refused}

@@ -1,5 +1,4 @@
 -- The new file of an add in place: its pieces are those that the definition allocates. Assumes nothing.
-use mathlib.Core.Bool.{Bool, false, true}
 use mathlib.Core.List.{List}
 use mathlib.Core.Path.{◌∙◌, ◌≡◌, ap, refl, subst, sym}
 use Prim.Native.Nat.{◌*◌, ◌<◌, ◌≤◌, ℕ}
@@ -12,7 +11,7 @@ use Rattle.calls.specs.Adding.{CanAdd, Places}
 use Rattle.layout.proofs.Added.{added_size, added_sound, allocate_fits}
 use Rattle.layout.proofs.Allocating.{AllocatesOf}
 use Rattle.layout.proofs.Soundness.{sums_sound}
-use Rattle.layout.specs.Adding.{Allocated, allocate, allocated, too_few, with_file}
+use Rattle.layout.specs.Adding.{allocate, allocated, too_few, with_file}
 use Rattle.layout.specs.Allocations.{Allocates}
 use Rattle.layout.specs.Layout.{block_count, blocks_of}
 use Rattle.layout.specs.Sound.{Sound}
@@ -21,7 +20,8 @@ use Rattle.manager.proofs.Contents.{paged_length}
 use Rattle.manager.specs.Disk.{cut_pages, page_count, write_pages}
 use Rattle.section.specs.Limits.{block_size, most_files, height_count}
 use Rattle.section.specs.declared.Section.{Section}
-use Rattle.free_pieces.specs.Allocating.{Allots, allocated_of, laid_pieces}
+use Rattle.std.specs.Prelude.{IsSome, None, Option, Some}
+use Rattle.free_pieces.specs.Allocating.{Allots, laid_pieces}
 use Rattle.table.specs.Files.{Adds}
 use Rattle.free_pieces.specs.Free.{free_of}
 use Rattle.table.specs.Tables.{files_of, layout_of, pieces_in}
@@ -29,23 +29,20 @@ use Rattle.table.specs.declared.Entry.{Entry}
 use Rattle.free_pieces.specs.declared.Laid.{Laid}
 use Rattle.table.specs.declared.Table.{Table}
 
-laid_is : (p : Laid) (s r : List Section) → allocated_of p ≡ allocated s r
-    → allocated_of p ≡ allocated (laid_pieces p) (free_of p.free)
-unfolding allocated_of
-laid_is p s r e = go p.ok e
-  where
-    go : (b : Bool)
-        → ◌≡◌ {A = Allocated}
-        (elim b as (λ _. Allocated) [ true ↦ allocated (laid_pieces p) (free_of p.free) | false ↦ too_few ])
-        (allocated s r)
-        → ◌≡◌ {A = Allocated}
-        (elim b as (λ _. Allocated) [ true ↦ allocated (laid_pieces p) (free_of p.free) | false ↦ too_few ])
-        (allocated (laid_pieces p) (free_of p.free))
-    go true q = refl
-    go false q = absurd (let z : ◌≡◌ {A = ℕ} 0 1 = cc in omega arith)
+-- where an add is allowed, pieces are laid
+module _ (t : Table) (i n k : ℕ) (bs : List ℕ) (c : CanAdd t i n k bs) where
+  free-pieces : (s : List Section) × (r : List Section) × (allocate 0 height_count n (free_of t.free) ≡ allocated s r)
+  unfolding layout_of
+  free-pieces =
+      let x = allocate_fits height_count i (page_count bs) (layout_of t) (opened_sums t c.opened) c.fits in
+      (x.0, x.1, ap (λ z. allocate 0 height_count z (free_of t.free)) c.pages ∙ x.2)
+
+  pub place_laid : (o : Option Laid) → Allots (allocate 0 height_count n (free_of t.free)) o → IsSome o
+  place_laid (Some p) a = refl
+  place_laid None a = let e : too_few ≡ allocated free-pieces.0 free-pieces.1 = a.meaning ∙ free-pieces.2 in cc
 
 module _ (t : Table) (i n k : ℕ) (bs : List ℕ) (c : CanAdd t i n k bs) (p : Laid)
-    (a : Allots (allocate 0 height_count n (free_of t.free)) p) where
+    (a : Allots (allocate 0 height_count n (free_of t.free)) (Some p)) where
   sums : SoundSums height_count (layout_of t)
   sums = opened_sums t c.opened
 
@@ -61,9 +58,8 @@ module _ (t : Table) (i n k : ℕ) (bs : List ℕ) (c : CanAdd t i n k bs) (p : 
   unfolding layout_of
   given =
       let x = allocate_fits height_count i (page_count bs) (layout_of t) sums c.fits in
-      let m : allocated_of p ≡ allocate 0 height_count (page_count bs) (free_of t.free) =
-      a.meaning ∙ ap (λ z. allocate 0 height_count z (free_of t.free)) c.pages in
-      let w = sym m ∙ laid_is p x.0 x.1 (m ∙ x.2) in
+      let w : allocate 0 height_count (page_count bs) (free_of t.free) ≡ allocated (laid_pieces p) (free_of p.free) =
+      sym (a.meaning ∙ ap (λ z. allocate 0 height_count z (free_of t.free)) c.pages) in
       (w, subst (AllocatesOf t.blocks height_count (page_count bs) (free_of t.free)) (sym x.2 ∙ w) x.3)
 
   few-files : length (files_of t) < most_files

@@ -1,5 +1,4 @@
 -- Removing in code past the catalogue: each refusal by its condition, and what a removal makes. Assumes nothing.
-use mathlib.Core.Bool.{true}
 use mathlib.Core.List.{List, [], ◌∷◌}
 use mathlib.Core.Path.{◌∙◌, ◌≡◌, ap, ap₂, refl, sym}
 use Prim.Native.Nat.{◌*◌, ℕ}

@@ -16,12 +16,12 @@ use Rattle.layout.specs.Layout.{File, block_count, file_blocks, find_file, found
 use Rattle.looking.proofs.LookChecks.{disk_right, disk_wrong, id_found, id_missing_lem, id-zero}
 use Rattle.looking.proofs.LookedUp.{looked_fits, looked_found, looked_low, looked_some}
 use Rattle.answers.specs.Answers.{number_of}
-use Rattle.std.specs.Prelude.{Ok, Err}
+use Rattle.std.specs.Prelude.{Err}
 use Rattle.looking.specs.Opened.{Opened}
 use Rattle.answers.specs.declared.Refusal.{Refusal}
 use Rattle.answers.specs.declared.Refusal.TheVariants as Refusal·
 use Rattle.manager.proofs.Judging.{passes, refuses_by}
-use Rattle.manager.specs.Conditions.{Condition, condition, first_refusal, not_above, refusal, refused, replace_checks}
+use Rattle.manager.specs.Conditions.{Condition, condition, first_refusal, not_above, refusal, replace_checks}
 use Rattle.manager.specs.Conditions.{too_long, unpaged, unranked, wrong_disk}
 use Rattle.manager.specs.Disk.{cut_pages, page_count, pages_on}
 use Rattle.manager.specs.Table.{first_rank}

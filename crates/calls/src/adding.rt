@@ -17,13 +17,13 @@ pub fn place_file(disk: &mut [u8], t: Table, id: u32, n: u32, content: &[u8]) ->
     requires { CanAdd t id n (length disk.old) content.now }
     ensures { Places t id content.now disk.old disk.new result }
 {
-    let free = t.free;
-    let laid = free_pieces::allocate(free, n);
-    let pieces = laid.pieces;
-    let e = Entry { id, pieces };
+    let laid = free_pieces::allocate(t.free, n).unwrap();
+    let e = Entry {
+        id,
+        pieces: laid.pieces,
+    };
     blocks::write_pages(disk, content, e);
-    let left = laid.free;
-    table::with_file(t, e, left)
+    table::with_file(t, e, laid.free)
 }
 
 // An add on a disk as long as its table says, under an id above zero: the other conditions, then the pages and the new

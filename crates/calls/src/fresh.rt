@@ -17,17 +17,13 @@ pub fn fresh_free(blocks: u32) -> Pieces
         count: 0,
         items: [none; Pieces::PLACES],
     };
-    let mut h: u32 = Height::GREATEST + 1;
-    while 0 < h {
-        h -= 1;
+    for h in (0..Height::COUNT).rev() {
         let height = Height { value: h };
         let length = height.length();
         if blocks / length % 2 == 1 {
-            let at = free.count;
             let first = blocks - blocks % (2 * length);
-            let s = Section { first, height };
-            free.items[at] = Piece::of(s);
-            free.count = at + 1;
+            free.items[free.count] = Piece::of(Section { first, height });
+            free.count += 1;
         }
     }
     free

@@ -1,45 +1,32 @@
 // Opening a catalogue, which every call but format begins with, and storing what a call made of its table.
 ghost use Rattle.std.specs.Prelude.{◌≡◌};
-ghost use Rattle.event_disk.specs.Opening.{Opens, Storable, Stores};
+ghost use Rattle.event_disk.specs.Opening.{Opens, Storable, Stores, answered_of};
 
 use crate::Opening;
+use answers::{Answered, Refusal};
 use calls::Changed;
 use catalogue::Version;
-use looking::Answer;
 
 // The table of the catalogue, or the refusal of the call.
-pub fn open(cat: &[u8]) -> Opening
+pub fn open(cat: &[u8]) -> Result<Opening, Refusal>
     ensures { Opens cat.now result }
 {
     let version = Version::of_length(cat.len());
     if cat.len() != version.bytes {
-        let none = decoder::tables::no_table();
-        return Opening {
-            entered: false,
-            refusal: Answer::CatalogueLength,
-            version,
-            table: none,
-        };
+        return Err(Refusal::CatalogueLength);
     }
-    let l = decoder::load(cat, version);
-    let table = l.table;
-    Opening {
-        entered: l.sound,
-        refusal: Answer::NotSound,
-        version,
-        table,
-    }
+    let Some(table) = decoder::load(cat, version) else {
+        return Err(Refusal::NotSound);
+    };
+    Ok(Opening { version, table })
 }
 
-// Stores the table if it is another one, and gives the answer back.
-pub fn store_changed(cat: &mut [u8], version: Version, r: Changed) -> Answer
-    requires { Storable version cat.old r }
-    ensures answer { result ≡ r.answer }
-    ensures catalogue { Stores r cat.old cat.new }
+// Stores the table that a call made, and answers its number.
+pub fn store_changed(cat: &mut [u8], version: Version, changed: Changed) -> Answered
+    requires { Storable version cat.old changed }
+    ensures answer { result ≡ answered_of changed }
+    ensures catalogue { Stores changed cat.old cat.new }
 {
-    if r.changed {
-        let table = r.table;
-        encoder::store(cat, version, table);
-    }
-    r.answer
+    encoder::store(cat, version, changed.table);
+    Answered::Number(changed.number)
 }

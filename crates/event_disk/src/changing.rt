@@ -1,11 +1,11 @@
 // The calls that change a catalogue: it is loaded once, and stored once if its table is another one then.
 ghost use Rattle.std.specs.Prelude.{◌≡◌};
 ghost use Rattle.manager.specs.Outcomes.{add_outcome, remove_outcome, replace_outcome};
-ghost use Rattle.looking.specs.Answers.{reply_of};
+ghost use Rattle.answers.specs.Answers.{reply_of};
 ghost use Rattle.event_disk.specs.Limit.{WithinCarries};
 
 use crate::catalogues::{open, store_changed};
-use looking::Answer;
+use answers::Answer;
 
 // Adds a file with the pages of `content`, and answers how many there are.
 pub fn add(cat: &mut [u8], disk: &mut [u8], id: u16, content: &[u8]) -> Answer
@@ -17,14 +17,9 @@ pub fn add(cat: &mut [u8], disk: &mut [u8], id: u16, content: &[u8]) -> Answer
         ≡ (add_outcome id content.now cat.old disk.old).disk }
     ensures content { content.exit.now ≡ content.entry.now }
 {
-    let o = open(cat);
-    if !o.entered {
-        return o.refusal;
-    }
-    let version = o.version;
-    let table = o.table;
-    let r = calls::add_in(disk, table, id, content);
-    store_changed(cat, version, r)
+    let opened = open(cat)?;
+    let changed = calls::add_in(disk, opened.table, id, content)?;
+    Ok(store_changed(cat, opened.version, changed))
 }
 
 // Removes the file of an id, and answers how many blocks were copied.
@@ -36,14 +31,9 @@ pub fn remove(cat: &mut [u8], disk: &mut [u8], id: u16) -> Answer
         ≡ (remove_outcome id cat.old disk.old).disk }
     ensures limit { WithinCarries cat.old id (reply_of result) }
 {
-    let o = open(cat);
-    if !o.entered {
-        return o.refusal;
-    }
-    let version = o.version;
-    let table = o.table;
-    let r = calls::remove_in(disk, table, id);
-    store_changed(cat, version, r)
+    let opened = open(cat)?;
+    let changed = calls::remove_in(disk, opened.table, id)?;
+    Ok(store_changed(cat, opened.version, changed))
 }
 
 // Puts the pages of `content` in the place of a file whose first page has a quality letter of lower rank, and answers
@@ -58,12 +48,7 @@ pub fn replace(cat: &mut [u8], disk: &mut [u8], id: u16, content: &[u8]) -> Answ
     ensures content { content.exit.now ≡ content.entry.now }
     ensures limit { WithinCarries cat.old id (reply_of result) }
 {
-    let o = open(cat);
-    if !o.entered {
-        return o.refusal;
-    }
-    let version = o.version;
-    let table = o.table;
-    let r = calls::replace_in(disk, table, id, content);
-    store_changed(cat, version, r)
+    let opened = open(cat)?;
+    let changed = calls::replace_in(disk, opened.table, id, content)?;
+    Ok(store_changed(cat, opened.version, changed))
 }

@@ -10,15 +10,12 @@ mod reading;
 use catalogue::Version;
 pub use changing::{add, remove, replace};
 pub use formatting::format;
-use looking::Answer;
 pub use reading::{breaks, check, free, read, which};
 use table::Table;
 
-// The table of a catalogue, if it could be entered, or the refusal; and its version.
+// A catalogue that a call works on: its version and its table.
 #[derive(Clone, Copy)]
 pub struct Opening {
-    pub entered: bool,
-    pub refusal: Answer,
     pub version: Version,
     pub table: Table,
 }

@@ -1,11 +1,11 @@
 // The calls that change no catalogue: it is loaded once, and the call answers from its table.
 ghost use Rattle.std.specs.Prelude.{◌≡◌};
 ghost use Rattle.manager.specs.Outcomes.{breaks_outcome, check_outcome, free_outcome, read_outcome, which_outcome};
-ghost use Rattle.looking.specs.Answers.{reply_of};
+ghost use Rattle.answers.specs.Answers.{reply_of};
 ghost use Rattle.event_disk.specs.Limit.{WithinOnes};
 
 use crate::catalogues::open;
-use looking::Answer;
+use answers::{Answer, Answered};
 
 // Fills the output with the pages of a file from `first` on, and answers how many.
 pub fn read(cat: &[u8], disk: &[u8], id: u16, first: u64, out: &mut [u8]) -> Answer
@@ -18,12 +18,8 @@ pub fn read(cat: &[u8], disk: &[u8], id: u16, first: u64, out: &mut [u8]) -> Ans
     ensures output { out.new
         ≡ (read_outcome id first out.old cat.now disk.now).output }
 {
-    let o = open(cat);
-    if !o.entered {
-        return o.refusal;
-    }
-    let table = o.table;
-    looking::read_in(disk, table, id, first, out)
+    let opened = open(cat)?;
+    looking::read_in(disk, opened.table, id, first, out)
 }
 
 // Answers how many breaks a file has: how many pieces in page order do not start right after the one before them.
@@ -32,12 +28,8 @@ pub fn breaks(cat: &[u8], id: u16) -> Answer
     ensures catalogue { cat.exit.now ≡ (breaks_outcome id cat.now).catalogue }
     ensures limit { WithinOnes cat.now id (reply_of result) }
 {
-    let o = open(cat);
-    if !o.entered {
-        return o.refusal;
-    }
-    let table = o.table;
-    looking::breaks_in(table, id)
+    let opened = open(cat)?;
+    looking::breaks_in(opened.table, id)
 }
 
 // Fills the list with the ids of the files whose removal alone lets n blocks in, fewest copied blocks first, then
@@ -49,12 +41,8 @@ pub fn which(cat: &[u8], n: u64, places: &mut [u16]) -> Answer
     ensures output { places.new
         ≡ (which_outcome n places.old cat.now).output }
 {
-    let o = open(cat);
-    if !o.entered {
-        return o.refusal;
-    }
-    let table = o.table;
-    choosing::which_in(table, n, places)
+    let opened = open(cat)?;
+    choosing::which_in(opened.table, n, places)
 }
 
 // Answers how many blocks are free.
@@ -62,13 +50,9 @@ pub fn free(cat: &[u8]) -> Answer
     ensures answer { reply_of result ≡ (free_outcome cat.now).reply }
     ensures catalogue { cat.exit.now ≡ (free_outcome cat.now).catalogue }
 {
-    let o = open(cat);
-    if !o.entered {
-        return o.refusal;
-    }
-    let table = o.table;
-    let n = looking::free_in(table);
-    Answer::Number(n)
+    let opened = open(cat)?;
+    let n = looking::free_in(opened.table);
+    Ok(Answered::Number(n))
 }
 
 // Answers how many blocks the disk has, if it is as long as the catalogue says.
@@ -78,10 +62,6 @@ pub fn check(cat: &[u8], disk: &[u8]) -> Answer
         ≡ (check_outcome cat.now disk.now).catalogue }
     ensures disk { disk.exit.now ≡ (check_outcome cat.now disk.now).disk }
 {
-    let o = open(cat);
-    if !o.entered {
-        return o.refusal;
-    }
-    let table = o.table;
-    looking::check_in(disk.len(), table)
+    let opened = open(cat)?;
+    looking::check_in(disk.len(), opened.table)
 }

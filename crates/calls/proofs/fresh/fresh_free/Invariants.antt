@@ -2,7 +2,7 @@
 -- below height `h` are all, and there is room for the pieces below `h`. A turn adds the piece of its height if the
 -- quotient by the height's length is odd. Assumes nothing.
 use mathlib.Core.Path.{◌≡◌}
-use Prim.Native.Nat.{◌+◌, ◌-◌, ◌≤◌}
+use Prim.Native.Nat.{◌+◌, ◌≤◌}
 use lib.ListN.{length}
 use Rattle.section.specs.Limits.{height_count}
 use Rattle.layout.specs.Layout.{pieces_from}
@@ -14,6 +14,3 @@ abbrev pub invariant-loop-h : goal.invariant-loop-h
 invariant-loop-h l =
     (l.h ≤ height_count) × (l.free.count + l.h ≤ piece_places) × (length l.free.items ≡ piece_places)
     × (pieces_with l.blocks l.h l.free ≡ pieces_from height_count l.blocks 0)
-
-abbrev pub decreases-loop-h : goal.decreases-loop-h
-decreases-loop-h l = l.h

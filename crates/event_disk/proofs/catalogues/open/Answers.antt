@@ -2,20 +2,21 @@
 use mathlib.Core.Path.{subst, sym}
 use Rattle.catalogue.proofs.Roomy.{served, version_of-one}
 use Rattle.catalogue.specs.Version.{Served}
-use Rattle.event_disk.proofs.Entering.{opens_loaded, opens_wrong}
+use Rattle.event_disk.proofs.Entering.{opens_loaded, shut-length, shut-unsound}
 use Rattle.event_disk.proofs.catalogues.open.Goals as goal
 
 pub returns-then-cat-version : goal.returns-then-cat-version
-returns-then-cat-version c =
-    let cat = c.args.cat.now in
-    opens_wrong cat _ c.no_table-none.result c.of_length-version.ensures c.if-cat-version.true
+returns-then-cat-version c = shut-length c.args.cat.now _ c.of_length-version.ensures c.if-cat-version.true
 
-pub load-l-requires : goal.load-l-requires
-load-l-requires c =
+pub load-requires : goal.load-requires
+load-requires c =
     (subst Served (sym c.of_length-version.ensures) (served (version_of-one _)), c.if-cat-version.false)
+
+pub returns-in_default : goal.returns-in_default
+returns-in_default c =
+    shut-unsound c.args.cat.now _ c.of_length-version.ensures c.if-cat-version.false c.in_default.ensures.reading
 
 pub returns : goal.returns
 returns c =
-    let cat = c.args.cat.now in
-    opens_loaded cat _ c.of_length-version.ensures c.load-l.result c.load-l.ensures.reading c.load-l.ensures.ready.exact
-    c.if-cat-version.false
+    opens_loaded c.args.cat.now _ c.of_length-version.ensures c.if-cat-version.false c.in-Some.table
+    c.in-Some.ensures.ready.exact c.in-Some.ensures.reading

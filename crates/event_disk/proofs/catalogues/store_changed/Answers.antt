@@ -6,8 +6,6 @@ use Rattle.catalogue.specs.Version.{OneOf, versions}
 use Rattle.catalogue.specs.declared.Version.{Version}
 use Rattle.layout.specs.Sound.{Sound}
 use Rattle.table.specs.Tables.{layout_of}
-use borrow.Author.Rules.{rules}
-use Rattle.event_disk.proofs.Entering.{never}
 use Rattle.event_disk.proofs.catalogues.store_changed.Goals as goal
 
 pub store-requires : goal.store-requires
@@ -18,24 +16,11 @@ store-requires c =
         c.requires.bytes ∙ ap (λ (v : Version). v.bytes) back,
       );
       sized = c.requires.sized;
-      sound = subst (λ (v : Version). Sound v.heights (layout_of c.args.r.table)) back
-          (c.requires.rules c.if-r.true);
+      sound = subst (λ (v : Version). Sound v.heights (layout_of c.args.changed.table)) back c.requires.rules;
     }
 
-pub returns-then-r : goal.returns-then-r
-returns-then-r c =
-    record {
-      answer = refl;
-      catalogue = record {
-        stored = λ _. c.store.ensures ∙ ap (λ v. encode v (layout_of
-            c.args.r.table))
-            c.requires.version;
-        kept = λ e. never (sym e ∙ c.if-r.true);
-      };
-    }
-
-pub returns-else-r : goal.returns-else-r
-returns-else-r c = record {
+pub returns : goal.returns
+returns c = record {
   answer = refl;
-  catalogue = record { stored = λ e. never (sym c.if-r.false ∙ e); kept = λ _. refl };
+  catalogue = c.store.ensures ∙ ap (λ v. encode v (layout_of c.args.changed.table)) c.requires.version;
 }

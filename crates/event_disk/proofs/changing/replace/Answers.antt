@@ -2,7 +2,8 @@
 use mathlib.Core.List.{List, []}
 use mathlib.Core.Path.{refl}
 use Prim.Native.Nat.{ℕ}
-use borrow.Author.Tests.{not-false, not-true}
+use Rattle.std.proofs.lemmas.Result.{err_from_is_err_and}
+use Rattle.answers.specs.Answers.{number_of}
 use Rattle.catalogue.specs.declared.Version.{Version}
 use Rattle.table.specs.Tables.{layout_of}
 use Rattle.manager.specs.Conditions.{Outcome}
@@ -12,18 +13,21 @@ use Rattle.manager.proofs.OnRead.{replace_refused}
 use Rattle.manager.specs.Call.{replace}
 use Rattle.event_disk.proofs.WithinLimits.{within_carries}
 use Rattle.event_disk.proofs.ReplaceOutcome.{replace_on_entered}
-use Rattle.event_disk.proofs.Entering.{made, shut_out, storable}
+use Rattle.event_disk.proofs.Entering.{made, made_none, shut_out, storable}
 use Rattle.event_disk.proofs.changing.replace.Goals as goal
 
-pub returns-then-not-o : goal.returns-then-not-o
-returns-then-not-o c =
+pub returns-in_err-opened : goal.returns-in_err-opened
+returns-in_err-opened c =
     let cat = c.args.cat.now in
     let disk = c.args.disk.now in
-    let shut = c.open-o.ensures.shut (not-true _ c.if-not-o.true) in
-    let e = replace_refused cat shut.number shut.first c.args.id c.args.content.now disk in
+    let a = c.in_err-opened.field-0.0 in
+    let shut = c.in_err-opened.ensures in
+    let e = replace_refused cat (number_of a) shut.first c.args.id c.args.content.now disk in
     let full = replace_outcome c.args.id c.args.content.now cat disk in
-    let s = shut_out cat disk [] c.open-o.result.refusal shut full e in
+    let s = shut_out cat disk [] a full e in
     let limit = within_carries (replace c.args.id c.args.content.now) cat c.args.id disk _ refl s.0 in
+    let p = err_from_is_err_and c.from_residual.result c.from_residual.ensures.1 in
+    rw (p.1, p.2)
     record {
       answer = s.0;
       catalogue = s.1;
@@ -32,34 +36,51 @@ returns-then-not-o c =
       limit = limit;
     }
 
-pub replace_in-r-requires : goal.replace_in-r-requires
-replace_in-r-requires c =
-    (c.open-o.ensures.entered (not-false _ c.if-not-o.false)).opened
+pub replace_in-requires : goal.replace_in-requires
+replace_in-requires c =
+    c.in_ok-opened.ensures.entered.opened
 
 pub store_changed-requires : goal.store_changed-requires
 store_changed-requires c =
-    let inside = not-false _ c.if-not-o.false in
-    storable _ c.open-o.result c.open-o.ensures inside c.replace_in-r.result c.replace_in-r.ensures
+    storable _ c.in_ok-opened.opened c.in_ok-opened.ensures c.in_ok-changed.changed c.in_ok-changed.ensures
 
-pub returns : goal.returns
-returns c =
+pub returns-in_err-changed : goal.returns-in_err-changed
+returns-in_err-changed c =
     let cat = c.args.cat.now in
     let disk = c.args.disk.now in
-    let entered = c.open-o.ensures.entered (not-false _ c.if-not-o.false) in
-    let l = layout_of c.open-o.result.table in
-    let bs = c.args.content.now in
-    let on = replace_on_entered cat c.open-o.result.table entered c.args.id bs disk in
+    let entered = c.in_ok-opened.ensures.entered in
+    let l = layout_of c.in_ok-opened.opened.table in
+    let on = replace_on_entered cat c.in_ok-opened.opened.table entered c.args.id c.args.content.now disk in
     let past : Version → List ℕ → Outcome = λ v z. replace_on v l c.args.id c.args.content.now z disk in
     let full = replace_outcome c.args.id c.args.content.now cat disk in
-    let m = c.replace_in-r.ensures in
-    let st = c.store_changed.ensures in
-    let q = c.replace_in-r.result in
-    let x = made _ past cat c.store_changed.new.cat c.replace_in-r.new.disk q m st.catalogue full on _ st.answer in
-    let limit = within_carries (replace c.args.id bs) cat c.args.id disk _ refl x.0 in
+    let x =
+    made_none past cat c.replace_in.new.disk full on c.in_err-changed.field-0.0 c.in_err-changed.ensures in
+    let p = err_from_is_err_and c.from_residual-in_err-changed.result c.from_residual-in_err-changed.ensures.1 in
+    rw (p.1, p.2)
     record {
       answer = x.0;
       catalogue = x.1;
       disk = x.2;
       content = refl;
-      limit = limit;
+      limit = within_carries (replace c.args.id c.args.content.now) cat c.args.id disk _ refl x.0;
+    }
+
+pub returns : goal.returns
+returns c =
+    let cat = c.args.cat.now in
+    let disk = c.args.disk.now in
+    let entered = c.in_ok-opened.ensures.entered in
+    let l = layout_of c.in_ok-opened.opened.table in
+    let on = replace_on_entered cat c.in_ok-opened.opened.table entered c.args.id c.args.content.now disk in
+    let past : Version → List ℕ → Outcome = λ v z. replace_on v l c.args.id c.args.content.now z disk in
+    let full = replace_outcome c.args.id c.args.content.now cat disk in
+    let x =
+    made past cat c.replace_in.new.disk full on _ c.in_ok-changed.changed c.in_ok-changed.ensures c.store_changed.new.cat
+    c.store_changed.ensures.catalogue _ c.store_changed.ensures.answer in
+    record {
+      answer = x.0;
+      catalogue = x.1;
+      disk = x.2;
+      content = refl;
+      limit = within_carries (replace c.args.id c.args.content.now) cat c.args.id disk _ refl x.0;
     }

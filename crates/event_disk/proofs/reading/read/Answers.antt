@@ -1,6 +1,7 @@
 -- `event_disk::reading::read` meets its contract: each return has the outcome of the definition. Assumes nothing.
 use mathlib.Core.Path.{◌∙◌, ap, sym}
-use borrow.Author.Tests.{not-false, not-true}
+use Rattle.std.proofs.lemmas.Result.{err_from_is_err_and}
+use Rattle.answers.specs.Answers.{number_of}
 use Rattle.catalogue.specs.Version.{version_of}
 use Rattle.table.specs.Tables.{layout_of}
 use Rattle.manager.specs.Outcomes.{read_outcome}
@@ -9,15 +10,18 @@ use Rattle.manager.proofs.Untouched.{read_keeps}
 use Rattle.event_disk.proofs.Entering.{shut_out}
 use Rattle.event_disk.proofs.reading.read.Goals as goal
 
-pub returns-then-not-o : goal.returns-then-not-o
-returns-then-not-o c =
+pub returns-in_err-opened : goal.returns-in_err-opened
+returns-in_err-opened c =
     let cat = c.args.cat.now in
     let disk = c.args.disk.now in
     let out = c.args.out.now in
-    let shut = c.open-o.ensures.shut (not-true _ c.if-not-o.true) in
-    let e = read_refused_lem (version_of cat) cat shut.number shut.first c.args.id c.args.first out disk in
+    let a = c.in_err-opened.field-0.0 in
+    let shut = c.in_err-opened.ensures in
+    let e = read_refused_lem (version_of cat) cat (number_of a) shut.first c.args.id c.args.first out disk in
     let full = read_outcome c.args.id c.args.first out cat disk in
-    let s = shut_out cat disk out c.open-o.result.refusal shut full e in
+    let s = shut_out cat disk out a full e in
+    let p = err_from_is_err_and c.from_residual.result c.from_residual.ensures.1 in
+    rw (p.1, p.2)
     record {
       answer = s.0;
       catalogue = s.1;
@@ -27,13 +31,13 @@ returns-then-not-o c =
 
 pub read_in-requires : goal.read_in-requires
 read_in-requires c =
-    (c.open-o.ensures.entered (not-false _ c.if-not-o.false)).opened
+    c.in_ok-opened.ensures.entered.opened
 
 pub returns : goal.returns
 returns c =
     let cat = c.args.cat.now in
-    let entered = c.open-o.ensures.entered (not-false _ c.if-not-o.false) in
-    let l = layout_of c.open-o.result.table in
+    let entered = c.in_ok-opened.ensures.entered in
+    let l = layout_of c.in_ok-opened.opened.table in
     let on = read_on_read (version_of cat) cat l entered.bytes entered.reading in
     let e = on c.args.id c.args.first c.args.out.now c.args.disk.now in
     let m = c.read_in.ensures in

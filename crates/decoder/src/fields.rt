@@ -58,8 +58,7 @@ pub fn read_pairs(s: &[u8], at: usize, count: usize, width: usize) -> Option<Pai
     requires { (at ≤ length s.now) × (count ≤ piece_places) × (width ≤ widest_field) }
     ensures { PairsAt width s.now at count result }
 {
-    let none = Piece { word: 0 };
-    let mut items = [none; Pieces::PLACES];
+    let mut items = [Piece { word: 0 }; Pieces::PLACES];
     let mut sum = 0;
     let mut end = at;
     for item in &mut items[..count] {

@@ -61,15 +61,15 @@ fn is_sound_read(cat: &[u8], version: Version, read: TableRead) -> bool
 }
 
 // The table of a catalogue, if its bytes are sound.
+#[tactic(auto, unfolding(crate::specs::Loading::reading_of))]
 pub fn load(cat: &[u8], version: Version) -> Option<Table>
     requires { Served version × (length cat.now ≡ version.bytes) }
     ensures reading { reading_of result ≡ read_catalogue version cat.now }
     ensures ready { IfSome result (λ t. Ready t) }
 {
     let read = read_table(cat, version)?;
-    if is_sound_read(cat, version, read) {
-        Some(read.table)
-    } else {
-        None
+    if !is_sound_read(cat, version, read) {
+        return None;
     }
+    Some(read.table)
 }

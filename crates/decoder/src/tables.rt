@@ -1,7 +1,6 @@
 // The whole catalogue, read into a table.
 ghost use Rattle.std.specs.Prelude.{◌≡◌, ◌≤◌, length};
 ghost use Rattle.catalogue.specs.Version.{Served};
-ghost use Rattle.soundness.specs.Counts.{Exact};
 ghost use Rattle.decoder.specs.Loading.{HeaderAt, TableAt};
 
 use crate::TableRead;
@@ -10,27 +9,9 @@ use crate::fields::{read_field, read_pairs};
 use crate::pieces::no_entry;
 use catalogue::Version;
 use free_pieces::Free;
-use piece::Piece;
 use piece_lists::Pieces;
-use section::{Height, Section};
+use section::Section;
 use table::Table;
-
-// An empty table.
-pub fn no_table() -> Table
-    ensures { Exact result × (result.free.count ≡ 0) }
-{
-    let entry = no_entry(0);
-    let none = Piece { word: 0 };
-    Table {
-        blocks: 0,
-        count: 0,
-        files: [entry; Section::MOST_FILES],
-        free: Free {
-            count: 0,
-            items: [none; Free::PLACES],
-        },
-    }
-}
 
 // The table after the header: the entries, each read from its own part of the catalogue, and the free pairs, which are
 // few in a sound layout.
@@ -38,8 +19,7 @@ fn read_body(cat: &[u8], version: Version, blocks: u32, count: usize) -> Option<
     requires { Served version × (length cat.now ≡ version.bytes) × HeaderAt version cat.now blocks count }
     ensures { TableAt version cat.now result }
 {
-    let blank = no_entry(0);
-    let mut files = [blank; Section::MOST_FILES];
+    let mut files = [no_entry(0); Section::MOST_FILES];
     let width = version.width;
     let mut at = Version::SHORT_FIELD + width + Version::SHORT_FIELD;
     let mut sum = 0;

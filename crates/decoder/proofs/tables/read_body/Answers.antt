@@ -22,7 +22,7 @@ loop-file-init c =
     filled_start _ _ _ _ (omega (arith, c.requires.0.header, c.requires.1))
     (grind (arith, common_steps, c.requires.2.few))
     (each_take c.args.count
-    (each_replicate most_files c.no_entry-blank.result (omega (arith, c.no_entry-blank.ensures.1))))
+    (each_replicate most_files c.no_entry-files.result (omega (arith, c.no_entry-files.ensures.1))))
 
 pub returns-in_err-read : goal.returns-in_err-read
 returns-in_err-read c =
@@ -74,4 +74,4 @@ returns c =
     c.in_ok-pairs.ensures _ c.of.ensures _ c.loop-file.invariant.exact (grind (arith, common_steps))
     (each_append c.loop-file.invariant.each
     (each_drop c.args.count
-    (each_replicate most_files c.no_entry-blank.result (omega (arith, c.no_entry-blank.ensures.1)))))
+    (each_replicate most_files c.no_entry-files.result (omega (arith, c.no_entry-files.ensures.1)))))

@@ -1,6 +1,7 @@
 -- Two that are buddies stand side by side in a list in order: their places are found there, and taken there. Assumes
 -- nothing.
-use Rattle.std.proofs.Common.{◌≡◌, ◌+◌, ◌<◌, ◌&&◌, ◌++◌, ◌∙◌, add-one, ap, ap₂, arith, refl, sym, suc, zero, ℕ, false, List, [], ◌∷◌, drop, get_or, length, take, Some, None}
+use Rattle.std.proofs.Common.{◌≡◌, ◌+◌, ◌<◌, ◌&&◌, ◌++◌, ◌∙◌, add-one, ap, ap₂, arith, refl, sym, suc, zero, ℕ}
+use Rattle.std.proofs.Common.{false, List, [], ◌∷◌, drop, get_or, length, take, Some, None}
 use native.Mathlib.Decide.{dec_lt}
 use Rattle.section.proofs.Booleans.{and_true, false_and}
 use Rattle.section.specs.Sections.{section}
@@ -59,7 +60,8 @@ module _ (h : ℕ) (l : List Piece) (ord : InOrder (seen l)) where
   buddy-next i lt =
       let up = ap at (sym (add-one i)) ∙ seen_get l (i + 1) in
       ap₂ (λ a b. a && b) (ap (has_height h) (seen_get l i))
-      (next-buddy (seen l) ord i (section 0 0) (omega (arith, lt, seen-length l)) ∙ ap₂ is_buddy_above (seen_get l i) up)
+      (next-buddy (seen l) ord i (section 0 0) (omega (arith, lt, seen-length l))
+      ∙ ap₂ is_buddy_above (seen_get l i) up)
 
   -- the last one has none
   buddy-none : (i : ℕ) → i + 1 ≡ length l → has_free_buddy h (seen l) (at i) ≡ false
@@ -76,7 +78,9 @@ module _ (h : ℕ) (l : List Piece) (ord : InOrder (seen l)) where
 
   pub no_buddies : FirstBuddies h l None → buddy_pair h (seen l) ≡ fewer
   unfolding buddy_pair
-  no_buddies b = ap with_buddy (take_none (has_free_buddy h (seen l)) (seen l) (λ k lt. go k lt (dec_lt (k + 1) (length l))))
+  no_buddies b =
+      ap with_buddy
+      (take_none (has_free_buddy h (seen l)) (seen l) (λ k lt. go k lt (dec_lt (k + 1) (length l))))
     where
       go : (k : ℕ) → k < length (seen l) → Dec (k + 1 < length l) → has_free_buddy h (seen l) (at k) ≡ false
       go k lt (yes p) = buddy-next k p ∙ b k p

@@ -1,6 +1,7 @@
--- The lowest height that has two of a list: the pair of that height is the lowest pair, and there is none where no height
--- has two. Assumes nothing.
-use Rattle.std.proofs.Common.{◌≡◌, ◌+◌, ◌<◌, ◌≤◌, ◌∙◌, add-one, ap, arith, refl, subst, sym, suc, zero, ℕ, Bool, true, false, cond, List, Some, None}
+-- The lowest height that has two of a list: the pair of that height is the lowest pair, and there is none where no
+-- height has two. Assumes nothing.
+use Rattle.std.proofs.Common.{◌≡◌, ◌+◌, ◌<◌, ◌≤◌, ◌∙◌, add-one, ap, arith, refl, subst, sym, suc, zero, ℕ}
+use Rattle.std.proofs.Common.{Bool, true, false, cond, List, Some, None}
 use Rattle.std.specs.List.{count_by, find, range_with_len}
 use Rattle.std.specs.Prelude.{nat_lt}
 use Rattle.std.proofs.lemmas.Bool.{ltb-false, ltb-true}
@@ -14,7 +15,8 @@ use Rattle.layout.specs.Choices.{BuddiesOf, Takes}
 use Rattle.layout.specs.Covering.{count_of}
 use Rattle.layout.specs.Layout.{has_height, of_height}
 use Rattle.layout.specs.Lists.{indicator}
-use Rattle.layout.specs.Removing.{MergePair, buddy_pair, fewer, lowest_two, merge_pair, pair, second_of, with_lower}
+use Rattle.layout.specs.Removing.{MergePair, buddy_pair, fewer, lowest_two, merge_pair, pair, second_of}
+use Rattle.layout.specs.Removing.{with_lower}
 use Rattle.piece.specs.Packed.{section_in, seen}
 use Rattle.piece.specs.declared.Piece.{Piece}
 use Rattle.section.specs.declared.Section.{Section}

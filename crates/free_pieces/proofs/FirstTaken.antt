@@ -1,5 +1,6 @@
 -- The first of a list that passes a test, by its place: it is what taking the first takes. Assumes nothing.
-use Rattle.std.proofs.Common.{◌≡◌, ◌+◌, ◌<◌, ◌∙◌, ap, arith, sym, subst, suc, zero, ℕ, Bool, true, false, List, [], ◌∷◌, drop, get_or, length}
+use Rattle.std.proofs.Common.{◌≡◌, ◌+◌, ◌<◌, ◌∙◌, ap, arith, sym, subst, suc, zero, ℕ, Bool, true, false, List}
+use Rattle.std.proofs.Common.{[], ◌∷◌, drop, get_or, length}
 use Rattle.section.specs.Sections.{section}
 use Rattle.section.specs.declared.Section.{Section}
 use Rattle.layout.proofs.Taking.{take_first_behind, take_first_here, take_first-none}

@@ -1,5 +1,7 @@
--- What a search among pieces finds, said of the sections in them. Assumes nothing.
-use Rattle.std.proofs.Common.{◌≡◌, ◌≤◌, ◌∙◌, ap, arith, refl, sym, ℕ, Bool, true, false, cond, List, length, Some, None}
+-- What a search among pieces finds, said of the sections in them, and the piece at a place of a loop. Assumes
+-- nothing.
+use Rattle.std.proofs.Common.{◌<◌, ◌≡◌, ◌≤◌, ◌∙◌, ap, arith, refl, sym, ℕ, Bool, true, false, cond, List, length}
+use Rattle.std.proofs.Common.{None, Some, get_or, take}
 use Rattle.std.specs.List.{position, position_or_len}
 use Rattle.std.specs.Prelude.{nat_lt}
 use Rattle.std.proofs.lemmas.Bool.{ltb-false}
@@ -7,6 +9,8 @@ use Rattle.std.proofs.lemmas.List.Quantifiers.{position-Some}
 use Rattle.std.proofs.lemmas.List.Sums.{prefix_len_passes}
 use borrow.Author.Tests.{not-true}
 use mathlib.Core.Bool.{not}
+use lib.Seq.{get_or-take}
+use Rattle.std.proofs.lemmas.List.{length-take}
 use Rattle.section.specs.declared.Section.{Section}
 use Rattle.layout.specs.Adding.{nothing, take_first}
 use Rattle.piece.proofs.Seen.{seen_get, seen-length}
@@ -37,3 +41,10 @@ module _ (q : Section → Bool) (l : List Piece) where
       let end : length l ≤ i = ltb-false i (length l) (failed (nat_lt i (length l)) i e) in
       sym (take_none q (seen l) (λ k lt. ap q (seen_get l k)
       ∙ not-true _ (prefix_len_passes (λ x. not (test x)) l k no_piece (omega (arith, lt, end, seen-length l)))))
+
+-- the section of the piece at place j, where the first m words of an array are looked at
+pub read_at : (items l : List Piece) (m j : ℕ) (s : Section) → l ≡ take m items → j < length l
+    → s ≡ section_in (get_or l j no_piece) → (j < m) × (s ≡ section_in (get_or items j no_piece))
+read_at items l m j s e lt q =
+    let below : j < m = omega (arith, lt, ap length e, length-take m items) in
+    (below, q ∙ ap section_in (ap (λ k. get_or k j no_piece) e ∙ get_or-take m items j no_piece below))

@@ -74,7 +74,8 @@ module _ (p : ℕ → Bool) where
       ∙ ap₂ (λ (x y : List Copy). x ++ y) (run_all m b u t)
       (ap (copies_from p) (run_split k n (b + m) (u + m))
       ∙ (from_append p (copy_run (b + m) (u + m) k) (copy_run (b + m + k) (u + m + k) n)
-      ∙ ap (λ (x : List Copy). x ++ copies_from p (copy_run (b + m + k) (u + m + k) n)) (run_none k (b + m) (u + m) f))))
+      ∙ ap (λ (x : List Copy). x ++ copies_from p (copy_run (b + m + k) (u + m + k) n))
+      (run_none k (b + m) (u + m) f))))
 
   module _ (b : Section) (u : ℕ) where
     -- the test passes the blocks of b that no piece of l holds: what it keeps of a run are the gaps

@@ -6,7 +6,6 @@ use Prim.Native.Nat.{◌+◌, ◌-◌, ◌<◌, ◌≤◌, ℕ}
 use native.Mathlib.Omega.{arith}
 use lib.Dec.{eqb}
 use lib.ListN.{drop, get_or, length, length-append, length-take, take}
-use lib.Seq.{get_or-take}
 use borrow.Author.Tests.{eq-eqb, ne_eqb}
 use Rattle.section.specs.declared.Section.{Section}
 use Rattle.section.specs.Sections.{Addressable, buddy_of, end_of, is_inside, section}
@@ -195,10 +194,3 @@ module _ (b : Section) (items : List Piece) (m at n j : ℕ) (k : Counting b ite
     ap length (gap_last b u at items m j k.within le),
     length-copy_run at (u + (at - b.first)) (end_of b - at),
   )
-
--- the section of the piece at place j, where the first m words of an array are looked at
-pub read_at : (items l : List Piece) (m j : ℕ) (s : Section) → l ≡ take m items → j < length l
-    → s ≡ section_in (get_or l j no_piece) → (j < m) × (s ≡ section_in (get_or items j no_piece))
-read_at items l m j s e lt q =
-    let below : j < m = omega (arith, lt, ap length e, length-take m items) in
-    (below, q ∙ ap section_in (ap (λ k. get_or k j no_piece) e ∙ get_or-take m items j no_piece below))

@@ -1,6 +1,7 @@
 -- Two pieces taken at their places are the pair to merge: where no two are buddies, the lowest of a height and the
 -- lowest of it behind that. Assumes nothing.
-use Rattle.std.proofs.Common.{◌≡◌, ◌+◌, ◌<◌, ◌∙◌, ap, ap₂, arith, refl, sym, subst, suc, zero, ℕ, List, [], ◌∷◌, drop, get_or, length, Option, Some, None}
+use Rattle.std.proofs.Common.{◌≡◌, ◌+◌, ◌<◌, ◌∙◌, ap, ap₂, arith, refl, sym, subst, suc, zero, ℕ, List, []}
+use Rattle.std.proofs.Common.{◌∷◌, drop, get_or, length, Option, Some, None}
 use Rattle.std.specs.List.{position}
 use Rattle.std.specs.Prelude.{option_and_then, option_map}
 use Rattle.section.specs.Sections.{section}
@@ -68,7 +69,8 @@ module _ (h : ℕ) where
   one_left : (free : List Section) (i : ℕ) → FirstAt (has_height h) free i
       → count_of h free ≡ 1 + count_of h (without_at i free)
   one_left free i f =
-      let t = subst (TakesOf (has_height h) free) (take_at (has_height h) free i f) (take_first_is (has_height h) free) in
+      let t = subst (TakesOf (has_height h) free) (take_at (has_height h) free i f)
+      (take_first_is (has_height h) free) in
       omega (arith, takes_sum (of_height h) t, of_height_same h (get_or free i (section 0 0)) (takes_height t))
 
   module _ (l : List Piece) where
@@ -89,7 +91,8 @@ module _ (h : ℕ) where
             → option_map {U = ℕ × ℕ} (λ j. (i, i + j)) o ≡ None → ⊥
         second i f (Some j) q e = cc
         second i f None q e =
-            let rest = nothing-found (has_height h) (drop (i + 1) l) q ∙ ap (take_first (has_height h)) (sym (behind i)) in
+            let rest = nothing-found (has_height h) (drop (i + 1) l) q
+            ∙ ap (take_first (has_height h)) (sym (behind i)) in
             omega (
               arith,
               two,
@@ -112,7 +115,8 @@ module _ (h : ℕ) where
             let s : ◌≡◌ {A = ℕ × ℕ} (i, i + j) r = cc in
             subst (λ (z : ℕ × ℕ). PairPlaces h (seen l) z.0 z.1) s
             (lowest-places (seen l) none i j f
-            (subst (λ k. FirstAt (has_height h) k j) (sym (behind i)) (first-found (has_height h) (drop (i + 1) l) j q)))
+            (subst (λ k. FirstAt (has_height h) k j) (sym (behind i))
+            (first-found (has_height h) (drop (i + 1) l) j q)))
         second i f None q e = cc
 
         go : (o : Option ℕ) → place l ≡ o

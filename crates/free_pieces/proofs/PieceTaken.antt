@@ -30,7 +30,8 @@ unfolding split_piece
 split_piece_highest h free = refl
 
 -- else what is taken a height up
-split_piece_below : (k h : ℕ) (free : List Section) → split_piece (suc k) h free ≡ split_at h (take_piece k (suc h) free)
+split_piece_below : (k h : ℕ) (free : List Section)
+    → split_piece (suc k) h free ≡ split_at h (take_piece k (suc h) free)
 unfolding split_piece
 split_piece_below k h free = refl
 
@@ -93,7 +94,8 @@ stock_few {l} s =
 pub took : (k h : ℕ) (free : Free) (d : Drawn) → Stocked free → taken_of (Some d) ≡ take_piece k h (free_of free)
     → TakesPiece greatest_disk h (free_of free) (section_in d.piece) (free_of d.rest)
 took k h free d s e =
-    subst (TakesPieceOf greatest_disk k h (free_of free)) (sym e) (take_piece_is greatest_disk k h (free_of free) (stock_of s))
+    subst (TakesPieceOf greatest_disk k h (free_of free)) (sym e)
+    (take_piece_is greatest_disk k h (free_of free) (stock_of s))
 
 pub to_halve : (k h : ℕ) (free : Free) (d : Drawn) → h < greatest_height → Stocked free
     → taken_of (Some d) ≡ take_piece k (h + 1) (free_of free) → length (free_of d.rest) ≡ d.rest.count → ToHalve h d

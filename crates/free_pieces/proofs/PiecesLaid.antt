@@ -7,7 +7,8 @@ use native.Mathlib.Numerals.{add-one}
 use native.Mathlib.Omega.{arith}
 use lib.ListN.{length, length-set, replicate, set}
 use Rattle.piece_lists.specs.Few.{list_of, piece_places}
-use Rattle.layout.specs.Adding.{Allocated, Taken, allocate, allocated, nothing, take_piece, taken, too_few, with_piece}
+use Rattle.layout.specs.Adding.{Allocated, Taken, allocate, allocated, nothing, take_piece, taken, too_few}
+use Rattle.layout.specs.Adding.{with_piece}
 use Rattle.layout.specs.Layout.{digit}
 use Rattle.section.specs.Limits.{greatest_height, height_count}
 use Rattle.section.specs.declared.Section.{Section}
@@ -117,7 +118,8 @@ pub laying_at : {n h k : ℕ} {f : Free} {p : Laid} → Laying n h f p → k ≡
 laying_at {n} {f = f} {p = p} a e = subst (λ i. Laying n i f p) (sym e) a
 
 pub laying_start : (n : ℕ) (f : Free) → Stocked f
-    → Laying n height_count f (record { pieces = record { count = 0; items = replicate piece_places no_piece }; free = f })
+    → Laying n height_count f
+    (record { pieces = record { count = 0; items = replicate piece_places no_piece }; free = f })
 unfolding onward with_pieces list_of
 laying_start n f s = record { room = omega arith; places = refl; stocked = s; same = refl }
 
@@ -134,7 +136,8 @@ module _ (n h : ℕ) (f : Free) (p : Laid) (a : Laying n (h + 1) f p) where
     same = ap (with_pieces (laid_pieces p)) (sym (skip n h low (free_of p.free) b)) ∙ a.same;
   }
 
-  pub laying_more : (d : Drawn) → digit h n ≡ 1 → Yields (take_piece (greatest_height - h) h (free_of p.free)) (Some d)
+  pub laying_more : (d : Drawn) → digit h n ≡ 1
+      → Yields (take_piece (greatest_height - h) h (free_of p.free)) (Some d)
       → Laying n h f (record {
         pieces = record { count = p.pieces.count + 1; items = set p.pieces.items p.pieces.count d.piece };
         free = d.rest;
@@ -158,7 +161,8 @@ module _ (n h : ℕ) (f : Free) (p : Laid) (a : Laying n (h + 1) f p) where
   unfolding after
   laying_failed b y = sym (with_too_few (laid_pieces p)) ∙ onward-taken n h p nothing low b y.meaning ∙ a.same
 
-pub laying_end : (n : ℕ) (f : Free) (p : Laid) → Laying n 0 f p → Allots (allocate 0 height_count n (free_of f)) (Some p)
+pub laying_end : (n : ℕ) (f : Free) (p : Laid) → Laying n 0 f p
+    → Allots (allocate 0 height_count n (free_of f)) (Some p)
 unfolding onward allocate
 laying_end n f p a = record {
   meaning = sym (with_none (laid_pieces p) (free_of p.free)) ∙ a.same;

@@ -12,10 +12,12 @@ returns c =
     let p = c.as_slice in
     let items = c.in_places-items.result in
     let first = c.in_places-items.ensures.first in
-    let n : c.args.self.count ≡ length p.result.now = omega (arith, ap length p.ensures.words, length-take c.args.self.count c.args.self.items) in
+    let n : c.args.self.count ≡ length p.result.now =
+    omega (arith, ap length p.ensures.words, length-take c.args.self.count c.args.self.items) in
     record {
       count = refl;
-      list = ap (λ k. take k (seen items)) n ∙ seen-take (length p.result.now) items ∙ ap seen first ∙ p.ensures.listed;
+      list =
+          ap (λ k. take k (seen items)) n ∙ seen-take (length p.result.now) items ∙ ap seen first ∙ p.ensures.listed;
       exact = omega (arith, n, seen-length p.result.now, ap length p.ensures.listed);
       few = c.requires;
     }

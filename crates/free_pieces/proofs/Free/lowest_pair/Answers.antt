@@ -44,7 +44,8 @@ returns-in_err-low-in-None c =
 
 -- where the pair is taken, the two stand
 at : (c : Joined-place_of_buddies) → DueAt (seen c.as_slice-pieces.result.now) height_count 0 c.in_ok-h.h
-    → PairPlaces c.in_ok-h.h (seen c.as_slice-pieces.result.now) c.match-place_of_buddies.low.0 c.match-place_of_buddies.low.1
+    → PairPlaces c.in_ok-h.h (seen c.as_slice-pieces.result.now) c.match-place_of_buddies.low.0
+    c.match-place_of_buddies.low.1
 at c d =
     let h = c.in_ok-h.h in
     let l = c.as_slice-pieces.result.now in

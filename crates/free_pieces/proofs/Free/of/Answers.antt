@@ -12,9 +12,11 @@ returns c =
     let p = c.as_slice in
     let items = c.in_places-items.result in
     let first = c.in_places-items.ensures.first in
-    let n : c.args.list.count ≡ length p.result.now = omega (arith, ap length p.ensures.words, length-take c.args.list.count c.args.list.items) in
+    let n : c.args.list.count ≡ length p.result.now =
+    omega (arith, ap length p.ensures.words, length-take c.args.list.count c.args.list.items) in
     record {
       count = refl;
-      list = ap (λ k. take k (seen items)) n ∙ seen-take (length p.result.now) items ∙ ap seen first ∙ p.ensures.listed;
+      list =
+          ap (λ k. take k (seen items)) n ∙ seen-take (length p.result.now) items ∙ ap seen first ∙ p.ensures.listed;
       exact = omega (arith, n, seen-length p.result.now, ap length p.ensures.listed);
     }

@@ -25,10 +25,12 @@ returns c =
     ∙ ap (without_at low) (sym (seen-take m items)) in
     let fewer : m - 2 ≡ m - 1 - 1 = omega arith in
     let twice : take (m - 2) (seen b) ≡ without_at next (take (m - 1) (seen a)) =
-    ap (λ k. take k (seen b)) fewer ∙ seen-take (m - 1 - 1) b ∙ ap seen c.remove_at-2.ensures.listed ∙ seen-without next (take (m - 1) a)
+    ap (λ k. take k (seen b)) fewer ∙ seen-take (m - 1 - 1) b ∙ ap seen c.remove_at-2.ensures.listed
+    ∙ seen-without next (take (m - 1) a)
     ∙ ap (without_at next) (sym (seen-take (m - 1) a)) in
     record {
-      lower = c.section-lower.ensures ∙ sym (seen_get items low) ∙ sym (get_or-take m (seen items) low none (omega arith));
+      lower =
+          c.section-lower.ensures ∙ sym (seen_get items low) ∙ sym (get_or-take m (seen items) low none (omega arith));
       upper =
           c.section-upper.ensures ∙ sym (seen_get a next) ∙ sym (get_or-take (m - 1) (seen a) next none (omega arith))
           ∙ ap (λ l. get_or l next none) once;

@@ -2,7 +2,8 @@
 use Rattle.std.proofs.Common.{◌+◌, ◌-◌, ◌<◌, ◌≡◌, ◌≤◌, ◌∙◌, ap, arith, get_or, length, sym}
 use Rattle.std.proofs.lemmas.List.{length-take}
 use Rattle.piece.specs.Packed.{no_piece, section_in}
-use Rattle.free_pieces.proofs.GapSteps.{copies_gaps, counting_end, counting_gap, counting_more, counting_start, read_at}
+use Rattle.free_pieces.proofs.GapSteps.{copies_gaps, counting_end, counting_gap, counting_more, counting_start}
+use Rattle.free_pieces.proofs.FoundPieces.{read_at}
 use Rattle.free_pieces.specs.Free.{free_of}
 use Rattle.free_pieces.proofs.Pair.copies.Goals.{After-section}
 use Rattle.free_pieces.proofs.Pair.copies.Goals as goal
@@ -34,7 +35,8 @@ returns c =
     let p = c.args.self in
     let l = c.as_slice-piece-items in
     let n = ap length l.ensures.words ∙ length-take p.others.count p.others.items in
-    let all : p.others.count ≤ c.loop-piece.piece-index = omega (arith, c.loop-piece-test.false, c.loop-piece.invariant.within, n) in
+    let all : p.others.count ≤ c.loop-piece.piece-index =
+    omega (arith, c.loop-piece-test.false, c.loop-piece.invariant.within, n) in
     ap (λ z. c.loop-piece.n + (z - c.loop-piece.at)) c.end.ensures
     ∙ counting_end _ _ _ _ _ _ c.loop-piece.invariant all p.upper.first
     ∙ sym (ap length (copies_gaps p c.buddy-buddy.result c.buddy-buddy.ensures c.if-buddy-self.false))

@@ -1,8 +1,9 @@
--- `allocate` is the definition: with the pieces laid so far a turn lays one more if the quotient by the height's length
--- is odd. Assumes nothing.
+-- `allocate` is the definition: a turn lays one piece more if the quotient by the height's length is odd. Assumes
+-- nothing.
 use Rattle.std.proofs.Common.{◌%◌, ◌/◌, ◌≡◌, ◌^◌, ◌∙◌, ap, arith, sym, ℕ}
 use Rattle.layout.specs.Layout.{digit}
-use Rattle.free_pieces.proofs.PiecesLaid.{Laying, laying_at, laying_end, laying_failed, laying_more, laying_skip, laying_start}
+use Rattle.free_pieces.proofs.PiecesLaid.{Laying, laying_at, laying_end, laying_failed, laying_more}
+use Rattle.free_pieces.proofs.PiecesLaid.{laying_skip, laying_start}
 use Rattle.free_pieces.proofs.allocating.allocate.Goals.{Joined-n-length-eq1}
 use Rattle.free_pieces.proofs.allocating.allocate.Goals.{then-n-length-eq1+in_ok-drawn, else-n-length-eq1}
 use Rattle.free_pieces.proofs.allocating.allocate.Goals as goal
@@ -29,7 +30,8 @@ pub bounds-pieces-pieces : goal.bounds-pieces-pieces
 bounds-pieces-pieces c = omega (arith, c.loop-h.invariant.room)
 
 laid : (c : Joined-n-length-eq1)
-    → Laying c.args.n c.loop-h.h c.args.free (record { pieces = c.if-n-length-eq1.pieces; free = c.if-n-length-eq1.left })
+    → Laying c.args.n c.loop-h.h c.args.free
+    (record { pieces = c.if-n-length-eq1.pieces; free = c.if-n-length-eq1.left })
 laid c =
     let digit = digit_is _ _ _ c.length.ensures.equal in
     elim c.if-n-length-eq1.branch [

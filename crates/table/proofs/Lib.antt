@@ -2,6 +2,7 @@
 pub mod SoundStock
 pub mod MappedPlaces
 pub mod MapFirst
+pub mod EachKept
 pub mod FileLists
 pub mod FreeLists
 pub mod Released

@@ -1,7 +1,16 @@
--- The place that a search by a part of each item finds. Assumes nothing.
-use Rattle.std.proofs.Common.{◌≡◌, ◌∙◌, ap₂, sym, ℕ, Bool, List, map, nat_lt, cond, Some, None, Option}
+-- Searches by a part of each item: what they ask for, the place that they find, and what it is to find none. Assumes
+-- nothing.
+use mathlib.Core.Bool.{true≢false}
+use Rattle.std.proofs.Common.{◌≡◌, ◌∙◌, ap₂, cond, false, map, nat_lt, refl, sym, Bool, List, None, Option, Some, ℕ}
 use Rattle.std.proofs.Math.ListN.{length-map}
-use Rattle.std.specs.List.{position}
+use Rattle.std.specs.List.{All, position}
+use Rattle.std.specs.Option.{is_some}
+use Rattle.layout.proofs.Lists.{each_unmap}
+use Rattle.layout.specs.Lists.{Each}
+use Rattle.section.specs.declared.Section.{Section}
+use Rattle.piece.specs.Packed.{section_in, seen}
+use Rattle.piece.specs.declared.Piece.{Piece}
+use Rattle.piece_lists.proofs.EachItem.{each_get}
 use Rattle.piece_lists.proofs.FoundPlaces.{first_place-counted, first_place-mapped}
 
 pub position-mapped : {A B : Type 0} (f : A → B) (p : B → Bool) (l : List A)
@@ -11,3 +20,12 @@ position-mapped f p l =
     ap₂ found
     (sym (first_place-counted (λ x. p (f x)) l) ∙ first_place-mapped f p l ∙ first_place-counted p (map f l))
     (sym (length-map l f))
+
+-- what holds of each section holds of the section in each word
+pub all-seen : {P : Section → Type 0} (l : List Piece) → Each P (seen l) → All (λ x. P (section_in x)) l
+unfolding seen
+all-seen {P = P} l e i d lt = each_get {P = λ (x : Piece). P (section_in x)} i d (each_unmap section_in l e) lt
+
+pub none-not_some : {A : Type 0} (o : Option A) → is_some o ≡ false → o ≡ None
+none-not_some None e = refl
+none-not_some (Some x) e = absurd (true≢false e)

@@ -8,6 +8,7 @@ ghost use Rattle.table.specs.Files.{Adds};
 
 use crate::{Entry, Table};
 use free_pieces::Free;
+use piece_lists::insert_at;
 
 // Where the file of an id stands, or is to stand: at the first whose id is not lower.
 pub(crate) fn place_of(files: &[Entry], id: u32) -> Option<usize>
@@ -16,35 +17,19 @@ pub(crate) fn place_of(files: &[Entry], id: u32) -> Option<usize>
     files.iter().position(|x| id <= x.id)
 }
 
-// The table with a new file, and what is free then. One function finds the place and moves the later files up,
-// since an array that is passed on is copied.
+// The table with a new file in its place by id, and what is free then.
 pub fn with_file(t: Table, e: Entry, free: Free) -> Table
     requires sized { Sized t }
     requires count_lt_most_files { (t.count < most_files) × (InPlaces e) × (free.count ≤ free_places) }
     ensures { Adds t e free result }
 {
-    let m = t.count;
-    let id = e.id;
+    let count = t.count;
     let mut files = t.files;
-    let mut j: usize = 0;
-    'rank: while j < m {
-        let x = files[j];
-        if id <= x.id {
-            break 'rank;
-        }
-        j += 1;
-    }
-    let mut carry = e;
-    'shift: while j < m {
-        let x = files[j];
-        files[j] = carry;
-        carry = x;
-        j += 1;
-    }
-    files[m] = carry;
+    let place = place_of(&files[..count], e.id).unwrap_or(count);
+    insert_at(&mut files[..count + 1], count, place, e);
     Table {
         blocks: t.blocks,
-        count: m + 1,
+        count: count + 1,
         files,
         free,
     }

@@ -13,7 +13,7 @@ use piece_lists::Pieces;
 use section::Section;
 
 // The place of the first of some pieces that lies inside `from`, if one does.
-fn place_within(pieces: &[Piece], from: Section) -> Option<usize>
+pub(crate) fn place_within(pieces: &[Piece], from: Section) -> Option<usize>
     requires addressable { Addressable from }
     requires served { All (λ x. Addressable (section_in x)) pieces.now }
     ensures { result ≡ position (λ x. is_inside (section_in x) from) pieces.now }

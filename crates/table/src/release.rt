@@ -11,41 +11,16 @@ ghost use Rattle.table.specs.Merges.{Released};
 use crate::{Entry, Table};
 use free_pieces::Free;
 
-// The free pieces with those of a file, from the last one on. Each is put in its place here, by the loops of
-// `Free::with`, and not by that function, since a list that is passed on is copied.
+// The free pieces with those of a file, from the last one on.
 pub fn free_with(free: Free, e: Entry) -> Free
     requires { (InPlaces e) × (free.count + e.pieces.count ≤ free_places) }
     ensures { Lists (free.count + e.pieces.count) (insert_all (pieces_in e) (free_of free)) result }
 {
-    let list = e.pieces;
-    let mut count = free.count;
-    let mut items = free.items;
-    let mut k = list.count;
-    'pieces: while 0 < k {
-        k -= 1;
-        let piece = list.items[k];
-        let first = piece.first();
-        let mut place = count;
-        let mut i = count;
-        'place: while 0 < i {
-            i -= 1;
-            let x = items[i];
-            if first <= x.first() {
-                place = i;
-            }
-        }
-        let mut carry = piece;
-        let mut j = place;
-        'shift: while j < count {
-            let x = items[j];
-            items[j] = carry;
-            carry = x;
-            j += 1;
-        }
-        items[count] = carry;
-        count += 1;
+    let mut all = free;
+    for piece in e.pieces.as_slice().iter().rev() {
+        all = all.with(*piece);
     }
-    Free { count, items }
+    all
 }
 
 impl Table {
@@ -56,22 +31,15 @@ impl Table {
         requires i_value { i ≡ first_place (has_id (entry_at self i).id) (files_of self) }
         ensures { Released self i result }
     {
-        let m = self.count;
+        let count = self.count;
+        let entry = self.files[i];
         let mut files = self.files;
-        let e = files[i];
-        let old = self.free;
-        let free = free_with(old, e);
-        let mut j = i + 1;
-        while j < m {
-            let x = files[j];
-            files[j - 1] = x;
-            j += 1;
-        }
+        files.copy_within(i + 1..count, i);
         Table {
             blocks: self.blocks,
-            count: m - 1,
+            count: count - 1,
             files,
-            free,
+            free: free_with(self.free, entry),
         }
     }
 }

@@ -1,75 +1,45 @@
--- `table::Table::release` meets its contract: its pieces join the free ones, and each turn moves one file more down a
--- place. Assumes nothing.
-use mathlib.Core.Path.{◌∙◌, ◌≡◌, ap, refl, sym}
-use Prim.Native.Nat.{◌-◌}
-use native.Mathlib.Omega.{arith}
-use lib.ListN.{length, length-set}
+-- `table::Table::release` meets its contract: the files behind the one at place i move down by a place. Assumes
+-- nothing.
+use Rattle.std.proofs.Common.{arith, ◌-◌, ◌+◌, ◌≡◌, ◌≤◌, ◌∙◌, ap, length, refl, subst, sym}
+use Rattle.std.proofs.lemmas.List.{length-drop}
 use borrow.Author.Rules.{rules}
 use Rattle.section.specs.Limits.{most_files}
-use Rattle.piece_lists.proofs.Arrays.{length_of_mapped, without_at-end, without_at_more, without_at_start}
-use Rattle.piece_lists.proofs.EachItem.{each_get, each_set}
+use Rattle.layout.specs.Lists.{Each}
+use Rattle.piece_lists.proofs.Arrays.{length_of_mapped}
+use Rattle.piece_lists.proofs.EachItem.{each_get}
+use Rattle.piece_lists.proofs.ItemsMoved.{taken_out}
+use Rattle.table.proofs.EachKept.{each_drop, each_paste}
 use Rattle.table.proofs.Released.{layout_released}
 use Rattle.table.specs.Files.{no_entry}
 use Rattle.table.specs.Tables.{InPlaces}
 use Rattle.table.proofs.Table.release.Goals as goal
 
-pub free_with-free-requires : goal.free_with-free-requires
-free_with-free-requires c =
+pub free_with-requires : goal.free_with-requires
+free_with-requires c =
     let e : length c.args.self.files ≡ most_files = search (rules, length_of_mapped) in
-    let k = each_get {P = InPlaces} c.args.i no_entry c.requires.sized.each (omega arith) in
-    (k, omega arith)
-
-pub loop-j-init : goal.loop-j-init
-loop-j-init c =
-    let e : length c.args.self.files ≡ most_files = search (rules, length_of_mapped) in (
-      e,
-      omega arith,
-      omega arith,
-      omega arith,
-      c.requires.sized.each,
-      without_at_start c.args.self.files c.args.self.count c.args.i (omega arith),
-    )
-
-pub loop-j-preserved : goal.loop-j-preserved
-loop-j-preserved c =
-    let m = c.args.self.count in
-    let l = c.loop-j in
-    let v = l.invariant in (
-      simp length-set v.0,
-      v.1,
-      omega arith,
-      omega arith,
-      each_set {P = InPlaces} (l.j - 1) _ v.4 (each_get {P = InPlaces} l.j _ v.4 (omega arith)),
-      v.5
-          ∙ without_at_more l.files m l.j no_entry (omega arith) (omega arith) c.loop-j-test.true,
-    )
+    let q = each_get {P = InPlaces} c.args.i no_entry c.requires.sized.each (omega (arith, c.requires.sized.files)) in
+    (q, omega (arith, q, c.requires.i_lt_count))
 
 pub returns : goal.returns
 returns c =
-    let l = c.loop-j in
-    let v = l.invariant in
-    let f = c.free_with-free in
-    let e : length c.args.self.files ≡ most_files = search (rules, length_of_mapped) in
-    let q = each_get {P = InPlaces} c.args.i no_entry c.requires.sized.each (omega arith) in
+    let t = c.args.self in
+    let i = c.args.i in
+    let f = c.free_with.ensures in
+    let long : length t.files ≡ most_files = search (rules, length_of_mapped) in
+    let most : t.count ≤ length t.files = omega (arith, c.requires.sized.files) in
+    let moved = c.copy_within.ensures.after in
+    let q = each_get {P = InPlaces} i no_entry c.requires.sized.each (omega arith) in
+    let each : Each InPlaces c.copy_within.new.self =
+    subst (Each InPlaces) (sym moved)
+    (each_paste {P = InPlaces} i (t.count - (i + 1)) (omega arith) (omega (arith, length-drop (i + 1) t.files))
+    c.requires.sized.each (each_drop {P = InPlaces} (i + 1) c.requires.sized.each)) in
     record {
-      layout = layout_released c.args.self (record {
-        blocks = c.args.self.blocks;
-        count = c.args.self.count - 1;
-        files = l.files;
-        free = f.result;
-      })
-          c.args.i c.requires.i_value
-          (sym (v.5
-          ∙ without_at-end l.files c.args.self.count l.j no_entry (omega arith) (omega arith)
-          c.loop-j-test.false (omega arith)))
-          refl refl f.ensures.list;
-      sized = record {
-        files = omega arith;
-        free = omega (arith, f.ensures.count, q);
-        each = v.4;
-      };
+      layout =
+          layout_released t _ i c.requires.i_value (taken_out t.files _ i t.count (omega arith) most moved) refl
+          refl f.list;
+      sized = record { files = omega arith; free = omega (arith, f.count, q); each = each };
       blocks = refl;
       count = omega arith;
-      free = f.ensures.count;
-      exact = ap length f.ensures.list ∙ (f.ensures.exact ∙ sym f.ensures.count);
+      free = f.count;
+      exact = ap length f.list ∙ (f.exact ∙ sym f.count);
     }

@@ -1,92 +1,45 @@
--- `table::with_file` meets its contract: the files before the place have a lower id, and each turn moves one file more
--- up a place. Assumes nothing.
-use mathlib.Core.Path.{◌∙◌, ◌≡◌, refl, sym}
-use Prim.Native.Nat.{◌+◌}
-use native.Mathlib.Omega.{arith}
-use lib.ListN.{drop, length, length-set, take}
+-- `table::with_file` meets its contract: the file stands before the first whose id is not lower. Assumes nothing.
+use Rattle.std.proofs.Common.{arith, ◌+◌, ◌≡◌, ◌∙◌, ap, refl, subst, sym, drop, length, take, unwrap_or}
+use Rattle.std.proofs.lemmas.List.{length-take, take-take, take_all, take_at}
 use borrow.Author.Rules.{rules}
-use borrow.Author.Tests.{le-leb, lt-leb}
 use Rattle.section.specs.Limits.{most_files}
-use Rattle.piece_lists.proofs.Arrays.{length_of_mapped, place_end, place_here, place_on, with_at-end, with_at_more}
-use Rattle.piece_lists.proofs.Arrays.{with_at_start}
-use Rattle.piece_lists.proofs.EachItem.{each_get, each_set}
-use Rattle.piece_lists.specs.Places.{first_place}
+use Rattle.layout.proofs.Lists.{each_append}
+use Rattle.layout.specs.Lists.{Each}
+use Rattle.piece_lists.proofs.Arrays.{length_of_mapped}
+use Rattle.piece_lists.proofs.EachItem.{each_take}
+use Rattle.piece_lists.proofs.FoundPlaces.{first_place-found}
+use Rattle.piece_lists.specs.Places.{first_place, with_at}
+use Rattle.table.proofs.EachKept.{each_drop, each_with}
 use Rattle.table.proofs.FileLists.{layout-added, no_lower_id}
-use Rattle.table.specs.Files.{no_entry}
-use Rattle.table.specs.Tables.{InPlaces, layout_of}
+use Rattle.table.specs.Tables.{InPlaces}
 use Rattle.table.proofs.files.with_file.Goals as goal
-use Rattle.table.proofs.files.with_file.Goals.{else-rank-test, then-rank-test+then-id-x}
-
-pub rank-init : goal.rank-init
-rank-init c =
-    let e : length c.args.t.files ≡ most_files = search (rules, length_of_mapped) in
-    (e, omega arith, omega arith, omega arith)
-
-pub rank-preserved : goal.rank-preserved
-rank-preserved c =
-    let l = c.rank in
-    let lt = c.rank-test.true in (
-      l.invariant.0,
-      l.invariant.1,
-      omega arith,
-      place_on (no_lower_id c.args.e.id) c.args.t.files c.args.t.count l.j no_entry (omega arith) lt
-          (lt-leb _ _ c.if-id-x.false)
-          ∙ l.invariant.3,
-    )
-
-pub shift-init : goal.shift-init
-shift-init c =
-    let l = c.rank in
-    let v = l.invariant in
-    let at : l.j + first_place (no_lower_id c.args.e.id) (drop l.j (take c.args.t.count c.args.t.files))
-    ≡ l.j
-    =
-    elim c.rank-test.branch [
-      | else-rank-test w ↦ place_end (no_lower_id c.args.e.id) c.args.t.files c.args.t.count l.j no_entry
-          (omega arith) w.rank-test.false
-      | then-rank-test+then-id-x w ↦ place_here (no_lower_id c.args.e.id) c.args.t.files c.args.t.count l.j no_entry
-          (omega arith) w.rank-test.true (le-leb _ _ w.if-id-x.true)
-    ] in (
-      v.0,
-      v.1,
-      v.2,
-      c.requires.sized.each,
-      omega arith,
-      with_at_start c.args.t.files c.args.t.count l.j c.args.e (omega arith),
-      sym at ∙ v.3,
-    )
-
-pub shift-preserved : goal.shift-preserved
-shift-preserved c =
-    let m = c.args.t.count in
-    let l = c.shift in
-    let v = l.invariant in (
-      simp length-set v.0,
-      v.1,
-      omega arith,
-      each_set {P = InPlaces} l.j l.carry v.3 v.4,
-      each_get {P = InPlaces} l.j no_entry v.3 (omega arith),
-      v.5
-          ∙ with_at_more l.files m l.j l.carry no_entry (omega arith) c.shift-test.true,
-      v.6,
-    )
 
 pub returns : goal.returns
-unfolding layout_of
 returns c =
-    let l = c.shift in
-    let v = l.invariant in
+    let t = c.args.t in
+    let m = t.count in
+    let e = c.args.e in
+    let i = c.unwrap_or-place.result in
+    let new = c.insert_at.new.items in
+    let long : length t.files ≡ most_files = search (rules, length_of_mapped) in
+    let place : i ≡ first_place (no_lower_id e.id) (take m t.files) =
+    c.unwrap_or-place.ensures
+    ∙ ap (λ o. unwrap_or o m) c.place_of.ensures
+    ∙ first_place-found (no_lower_id e.id) (take m t.files) m (omega (arith, length-take m t.files)) in
+    let count : length new ≡ m + 1 = c.insert_at.ensures.len ∙ omega (arith, length-take (m + 1) t.files) in
+    let list : new ≡ with_at i e (take m t.files) =
+    sym (take_all (m + 1) new (omega arith))
+    ∙ c.insert_at.ensures.listed
+    ∙ ap (with_at i e) (take-take m (m + 1) t.files (omega arith)) in
+    let each : Each InPlaces new =
+    let first = each_take {P = InPlaces} m c.requires.sized.each in
+    subst (Each InPlaces) (sym list) (each_with {P = InPlaces} i e c.requires.count_lt_most_files.1 first) in
     record {
-      layout =
-          layout-added c.args.t _ c.rank.j c.args.e v.6
-          (sym (v.5
-          ∙ with_at-end l.files c.args.t.count l.j l.carry no_entry (omega arith) c.shift-test.false
-          (omega arith)))
-          refl refl;
+      layout = layout-added t _ i e place (take_at new (drop (m + 1) t.files) (m + 1) count ∙ list) refl refl;
       sized = record {
-        files = omega arith;
-        free = omega arith;
-        each = each_set {P = InPlaces} c.args.t.count l.carry v.3 v.4;
+        files = omega (arith, c.requires.count_lt_most_files);
+        free = c.requires.count_lt_most_files.2;
+        each = each_append each (each_drop {P = InPlaces} (m + 1) c.requires.sized.each);
       };
       count = refl;
       pieces = refl;

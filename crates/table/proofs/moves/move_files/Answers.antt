@@ -1,7 +1,6 @@
 -- `table::move_files` meets its contract: after i turns the first i files have moved. Assumes nothing.
-use mathlib.Core.Bool.{true≢false}
-use Rattle.std.proofs.Common.{◌+◌, ◌≡◌, ◌∙◌, false, List, None, Option, Some, refl, subst, sym}
-use Rattle.std.specs.Option.{is_some}
+use Rattle.std.proofs.Common.{◌+◌, ◌≡◌, ◌∙◌, List, refl, subst, sym}
+use Rattle.table.proofs.MappedPlaces.{none-not_some}
 use Rattle.table.proofs.MapFirst.{file_stays, map_first-next, map_first_all, map_first_more}
 use Rattle.table.specs.Files.{no_entry}
 use Rattle.table.specs.Moves.{PiecesServed, map_first, moved_entry}
@@ -9,10 +8,6 @@ use Rattle.table.specs.Tables.{InPlaces}
 use Rattle.table.specs.declared.Entry.{Entry}
 use Rattle.table.proofs.moves.move_files.Goals as goal
 use Rattle.table.proofs.moves.move_files.Goals.{else-is_some, then-is_some}
-
-not_some : {A : Type 0} (o : Option A) → is_some o ≡ false → o ≡ None
-not_some None e = refl
-not_some (Some x) e = absurd (true≢false e)
 
 pub loop-entry-init : goal.loop-entry-init
 loop-entry-init c = refl
@@ -47,7 +42,7 @@ loop-entry-preserved c =
       | then-is_some w ↦ subst Next (sym w.entry-items-is)
           (map_first_more g _ _ _ no_entry _ c.loop-entry-test.true o.invariant w.moved.ensures)
       | else-is_some w ↦
-          let none = not_some _ (sym c.is_some.ensures ∙ w.if-is_some.false) in
+          let none = none-not_some _ (sym c.is_some.ensures ∙ w.if-is_some.false) in
           subst Next (sym w.entry-items-is)
           (map_first_more g _ _ _ no_entry _ c.loop-entry-test.true o.invariant
           (sym (file_stays c.args.from c.args.to _ (sym c.place_inside.ensures ∙ none))))

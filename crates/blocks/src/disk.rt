@@ -83,9 +83,10 @@ fn write_run(disk: &mut [u8], to: usize, content: &[u8], page: usize, n: usize)
     ensures { disk.new
         ≡ write_pages disk.old (block_run to n) (cut_pages n (drop (block_size * page) content.now)) }
 {
-    for i in 0..n {
-        store_block(disk, to + i, content, page + i);
-    }
+    let first = Section::BLOCK_SIZE * page;
+    let place = Section::BLOCK_SIZE * to;
+    let size = Section::BLOCK_SIZE * n;
+    disk[place..place + size].copy_from_slice(&content[first..first + size]);
 }
 
 // Writes the pages of the content to the blocks of a file's pieces.

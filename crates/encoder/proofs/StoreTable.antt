@@ -10,7 +10,8 @@ use Rattle.layout.proofs.Lists.{each_imp, each_right}
 use Rattle.layout.specs.Layout.{Layout, file_pieces}
 use Rattle.layout.specs.Lists.{Each}
 use Rattle.layout.specs.Sound.{Sound}
-use Rattle.piece.proofs.Seen.{seen-take}
+use Rattle.piece.specs.Packed.{seen}
+use Rattle.piece.specs.declared.Piece.{Piece}
 use Rattle.free_pieces.specs.Free.{free_of}
 use Rattle.table.specs.Tables.{files_of, layout_of}
 use Rattle.table.specs.declared.Table.{Table}
@@ -86,12 +87,10 @@ module _ (v : Version) (known : OneOf v versions) (y : Layout) (n : ℕ) (count 
 -- ---- layouts of entries and pieces
 
 -- the layout of a table
-pub table_layout : (t : Table)
-    → layout_from t.blocks (take t.count t.files) (take t.free.count t.free.items) ≡ layout_of t
-unfolding files_of free_of layout_of
-table_layout t =
-    ap (λ l. record { blocks = t.blocks; files = files_of t; free = l })
-    (sym (seen-take t.free.count t.free.items))
+pub table_layout : (t : Table) (l : List Piece) → seen l ≡ free_of t.free
+    → layout_from t.blocks (take t.count t.files) l ≡ layout_of t
+unfolding files_of layout_of
+table_layout t l e = ap (λ k. record { blocks = t.blocks; files = files_of t; free = k }) e
 
 -- the heights of the free pieces have lengths
 pub free-low : (k : ℕ) → k ≤ height_count → (y : Layout) → Sound k y → Each Low y.free

@@ -149,7 +149,7 @@ pub fn store(cat: &mut [u8], version: Version, t: Table)
         version,
         t.blocks,
         &t.files[..t.count],
-        &t.free.items[..t.free.count],
+        t.free.as_slice(),
     );
 }
 

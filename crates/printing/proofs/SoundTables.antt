@@ -1,11 +1,9 @@
 -- What a sound table gives: files that fit the disk, and room for the text. Assumes nothing.
 use Rattle.piece.specs.Packed.{seen}
-use Rattle.piece.proofs.Seen.{seen-take}
 use mathlib.Core.List.{List}
-use mathlib.Core.Path.{◌≡◌, sym}
 use Prim.Native.Nat.{◌≤◌, ℕ}
 use native.Mathlib.Omega.{arith}
-use lib.ListN.{length, take}
+use lib.ListN.{length}
 use Rattle.piece_lists.specs.Few.{list_of, piece_places}
 use Rattle.std.proofs.lemmas.List.{length-take}
 use Rattle.section.specs.Limits.{height_count}
@@ -22,11 +20,6 @@ use Rattle.table.specs.declared.Table.{Table}
 use Rattle.printing.proofs.TextRoom.{text_length}
 use Rattle.texts.specs.Lines.{Room}
 use Rattle.printing.specs.Texts.{text_room}
-
--- the free pieces as sections
-pub free-seen : (t : Table) → seen (take t.free.count t.free.items) ≡ free_of t.free
-unfolding free_of
-free-seen t = sym (seen-take t.free.count t.free.items)
 
 module _ (t : Table) (z : Sized t) (s : Sound height_count (layout_of t)) where
   pub files-fit : sum_of file_blocks (files_of t) ≤ t.blocks

@@ -28,7 +28,7 @@ pub fn print_table(t: Table, out: &mut [u8]) -> usize
     let a = files::write_first_line(out, 0, t);
     let b = files::write_files(out, a, &t.files[..t.count]);
     let c = texts::write_bytes(out, b, b"free\n");
-    pairs::write_pairs(out, c, &t.free.items[..t.free.count])
+    pairs::write_pairs(out, c, t.free.as_slice())
 }
 
 // Writes the text of a refusal.

@@ -4,7 +4,7 @@ use native.Mathlib.Omega.{arith}
 use Rattle.manager.specs.Printing.{layout_text}
 use Rattle.table.specs.Tables.{files_of, layout_of}
 use Rattle.pieces.proofs.SoundPieces.{files-low, free-low}
-use Rattle.printing.proofs.SoundTables.{files-fit, free-seen, table-room}
+use Rattle.printing.proofs.SoundTables.{files-fit, table-room}
 use Rattle.printing.proofs.TextRoom.{text_size}
 use Rattle.texts.proofs.Writing.{joined, prints}
 use Rattle.printing.proofs.print_table.Goals as goal
@@ -40,8 +40,8 @@ unfolding files_of layout_of
 write_pairs-requires c =
     let t = c.args.t in
     let r = table-room t c.requires.places c.requires.sound c.args.out.now c.requires.room in record {
-      low = rw (free-seen t) (free-low t c.requires.places c.requires.sound);
-      room = record { fits = rw (free-seen t) (omega (arith, text_size (layout_of t))) };
+      low = rw c.as_slice.ensures.listed (free-low t c.requires.places c.requires.sound);
+      room = record { fits = rw c.as_slice.ensures.listed (omega (arith, text_size (layout_of t))) };
     }
 
 pub returns : goal.returns
@@ -51,5 +51,5 @@ returns c =
     prints
     (joined c.write_first_line-a.ensures
     (joined c.write_files-b.ensures
-    (joined c.write_bytes-c.ensures (rw (free-seen t) at c.write_pairs.ensures))))
+    (joined c.write_bytes-c.ensures (rw c.as_slice.ensures.listed at c.write_pairs.ensures))))
     (table-room t c.requires.places c.requires.sound c.args.out.now c.requires.room)

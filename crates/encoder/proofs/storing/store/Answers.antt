@@ -18,8 +18,8 @@ pub store_layout-requires : goal.store_layout-requires
 store_layout-requires c = record {
   one_of = c.requires.one_of;
   each = (files-low c.args.t c.requires.sized (wide c.requires.one_of.0 c.requires.sound)).each;
-  sound = rw (table_layout c.args.t) c.requires.sound;
+  sound = rw (table_layout c.args.t _ c.as_slice.ensures.listed) c.requires.sound;
 }
 
 pub returns : goal.returns
-returns c = rw (table_layout c.args.t) at c.store_layout.ensures
+returns c = rw (table_layout c.args.t _ c.as_slice.ensures.listed) at c.store_layout.ensures

@@ -50,15 +50,15 @@ fn replace_found(
         (λ v cat. replace_on v (layout_of t) id content.now cat disk.old)
         disk.new result }
 {
-    let byte = content[Letter::PLACE];
-    let new = Letter { byte };
-    let rank = new.rank();
-    if rank == 0 {
+    let new = Letter {
+        byte: content[Letter::PLACE],
+    };
+    if new.rank().is_none() {
         return Err(Refusal::LetterUnknown);
     }
     let e = t.files[i];
     let old = blocks::first_letter(disk, e);
-    if rank <= old.rank() {
+    if !new.ranks_above(old) {
         return Err(Refusal::LetterNotAbove);
     }
     let pages = content.len() / Section::BLOCK_SIZE;

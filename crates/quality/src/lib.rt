@@ -1,8 +1,17 @@
 // The quality letter of a miniSEED record, and its rank.
 #![tactic(auto)]
 
-ghost use Rattle.std.specs.Prelude.{◌≡◌};
-ghost use Rattle.quality.specs.Letters.{letter_place, rank_of};
+ghost use Rattle.std.specs.Prelude.{◌≡◌, nat_lt};
+ghost use Rattle.quality.specs.Letters.{letter_place, rank_number, rank_of};
+
+// The rank of a letter: R, D, Q, M, lowest first.
+#[derive(Clone, Copy, PartialEq, Eq, PartialOrd, Ord)]
+pub enum Rank {
+    R,
+    D,
+    Q,
+    M,
+}
 
 // A byte that stands where the quality letter does.
 #[derive(Clone, Copy)]
@@ -14,18 +23,24 @@ impl Letter {
     // The byte of a record, counted from 0, that is its quality letter.
     pub const PLACE: usize = 6;
 
-    // The rank: R, D, Q, M from 1 up, and 0 for any other letter.
-    pub fn rank(self) -> u32
-        ensures { result ≡ rank_of self.byte }
+    // The rank, if the letter is one of the four.
+    pub fn rank(self) -> Option<Rank>
+        ensures { rank_number result ≡ rank_of self.byte }
     {
-        let byte = self.byte;
-        match byte {
-            b'R' => 1,
-            b'D' => 2,
-            b'Q' => 3,
-            b'M' => 4,
-            _ => 0,
+        match self.byte {
+            b'R' => Some(Rank::R),
+            b'D' => Some(Rank::D),
+            b'Q' => Some(Rank::Q),
+            b'M' => Some(Rank::M),
+            _ => None,
         }
+    }
+
+    // Whether the letter ranks above the other: one outside the four ranks below all.
+    pub fn ranks_above(self, other: Letter) -> bool
+        ensures { result ≡ nat_lt (rank_of other.byte) (rank_of self.byte) }
+    {
+        other.rank() < self.rank()
     }
 }
 

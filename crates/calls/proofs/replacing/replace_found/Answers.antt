@@ -1,7 +1,9 @@
 -- `calls::replacing::replace_found` meets its contract: the refusals by letter and space, then the exchange. Assumes
 -- nothing.
-use mathlib.Core.Path.{◌∙◌, ap}
+use mathlib.Core.Path.{◌∙◌, ap, sym}
 use native.Mathlib.Omega.{arith}
+use borrow.Author.Tests.{ltb-false, ltb-true}
+use Rattle.quality.proofs.Ranks.{no_rank, some-rank}
 use Rattle.quality.specs.Letters.{rank_of}
 use Rattle.calls.proofs.ContentLetter.{letter_in_content, letter_of_content}
 use Rattle.calls.proofs.ReplaceJudged.{can_exchange, compared_fits, compared_low, compared_some, refuse-not_above}
@@ -12,11 +14,10 @@ pub bounds-content-6 : goal.bounds-content-6
 bounds-content-6 c =
     letter_in_content c.args.content.now c.requires.paged
 
-pub returns-then-rank-eq0 : goal.returns-then-rank-eq0
-returns-then-rank-eq0 c =
-    let k = c.rank-rank in
-    let new = k.ensures ∙ ap rank_of (letter_of_content c.args.content.now c.requires.paged) in
-    (refuse_unknown _ _ _ _ _ c.requires k.result new c.if-rank-eq0.true)
+pub returns-then-is_none : goal.returns-then-is_none
+returns-then-is_none c =
+    refuse_unknown _ _ _ _ _ c.requires _ (ap rank_of (letter_of_content c.args.content.now c.requires.paged))
+    (sym c.rank.ensures ∙ no_rank c.rank.result c.if-is_none.ensures)
 
 pub first_letter-old-requires : goal.first_letter-old-requires
 first_letter-old-requires c =
@@ -25,12 +26,13 @@ first_letter-old-requires c =
       bound = compared_some _ _ _ _ _ c.requires;
     }
 
-pub returns-then-rank : goal.returns-then-rank
-returns-then-rank c =
-    let new = c.rank-rank.ensures ∙ ap rank_of (letter_of_content c.args.content.now c.requires.paged) in
-    let old = c.rank.ensures ∙ ap rank_of c.first_letter-old.ensures in
-    (refuse-not_above _ _ _ _ _ c.requires c.rank-rank.result new c.if-rank-eq0.false
-    c.rank.result old (omega (arith, c.if-rank.true)))
+pub returns-then-not-ranks_above : goal.returns-then-not-ranks_above
+returns-then-not-ranks_above c =
+    let new = ap rank_of (letter_of_content c.args.content.now c.requires.paged) in
+    let old = ap rank_of c.first_letter-old.ensures in
+    let known = some-rank c.rank.result c.if-is_none.ensures in
+    refuse-not_above _ _ _ _ _ c.requires _ new (λ z. omega (arith, z, c.rank.ensures, known)) _ old
+    (ltb-false _ _ (sym c.if-not-ranks_above.ensures))
 
 pub blocks_of-held-requires : goal.blocks_of-held-requires
 blocks_of-held-requires c =
@@ -42,16 +44,18 @@ overflow_add-room c =
 
 pub returns-then-room-pages : goal.returns-then-room-pages
 returns-then-room-pages c =
-    let new = c.rank-rank.ensures ∙ ap rank_of (letter_of_content c.args.content.now c.requires.paged) in
-    let old = c.rank.ensures ∙ ap rank_of c.first_letter-old.ensures in
-    (refuse-space _ _ _ _ _ c.requires c.rank-rank.result new c.if-rank-eq0.false
-    c.rank.result old (omega (arith, c.if-rank.false)) c.free_in-free.result c.blocks_of-held.result
-    c.free_in-free.ensures.equal c.blocks_of-held.ensures.equal (omega (arith, c.if-room-pages.true)))
+    let new = ap rank_of (letter_of_content c.args.content.now c.requires.paged) in
+    let old = ap rank_of c.first_letter-old.ensures in
+    let known = some-rank c.rank.result c.if-is_none.ensures in
+    refuse-space _ _ _ _ _ c.requires _ new (λ z. omega (arith, z, c.rank.ensures, known)) _ old
+    (ltb-true _ _ (sym c.if-not-ranks_above.ensures)) c.free_in-free.result c.blocks_of-held.result
+    c.free_in-free.ensures.equal c.blocks_of-held.ensures.equal (omega (arith, c.if-room-pages.true))
 
 pub exchange-requires : goal.exchange-requires
 exchange-requires c =
-    let new = c.rank-rank.ensures ∙ ap rank_of (letter_of_content c.args.content.now c.requires.paged) in
-    let old = c.rank.ensures ∙ ap rank_of c.first_letter-old.ensures in
-    can_exchange _ _ _ _ _ c.requires c.rank-rank.result new c.if-rank-eq0.false
-    c.rank.result old (omega (arith, c.if-rank.false)) c.free_in-free.result c.blocks_of-held.result
+    let new = ap rank_of (letter_of_content c.args.content.now c.requires.paged) in
+    let old = ap rank_of c.first_letter-old.ensures in
+    let known = some-rank c.rank.result c.if-is_none.ensures in
+    can_exchange _ _ _ _ _ c.requires _ new (λ z. omega (arith, z, c.rank.ensures, known)) _ old
+    (ltb-true _ _ (sym c.if-not-ranks_above.ensures)) c.free_in-free.result c.blocks_of-held.result
     c.free_in-free.ensures.equal c.blocks_of-held.ensures.equal (omega (arith, c.if-room-pages.false))

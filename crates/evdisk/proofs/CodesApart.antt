@@ -1,12 +1,13 @@
 -- The number that comes back tells a refusal from an answer, and one refusal from another. Assumes nothing.
-use mathlib.Core.List.{[], ◌∷◌, map}
+use mathlib.Core.List.{[], ◌++◌, ◌∷◌, map}
 use mathlib.Core.Path.{◌≡◌, ap, refl}
 use Prim.Native.Nat.{suc, zero, ◌≤◌, ℕ}
 use native.Mathlib.Omega.{arith}
 use lib.IntN.{negsuc, pos}
-use Rattle.looking.specs.Answers.{reply_of}
-use Rattle.looking.specs.declared.Answer.{Answer}
-use Rattle.looking.specs.declared.Answer.TheVariants as Answer·
+use Rattle.std.specs.Prelude.{Err, Ok}
+use Rattle.answers.specs.Answers.{reply_of}
+use Rattle.answers.specs.declared.Answered.TheVariants as Answered·
+use Rattle.answers.specs.declared.Refusal.TheVariants as Refusal·
 use Rattle.manager.specs.Conditions.{Reply, answered, fits_already, refused}
 use Rattle.section.specs.Limits.{most_files}
 use Rattle.evdisk.specs.Codes.{code_of, fits_number}
@@ -39,11 +40,11 @@ pub counts_apart : (k : ℕ) → k ≤ most_files → code_of (answered k) ≡ c
 counts_apart k few e = let z : k ≡ fits_number = cc in omega (arith, z, few)
 
 -- every refusal of the code and its number, -1 to -14, two answers and "fits already"
-pub literal_codes : map (λ a. code_of (reply_of a))
-    (Answer·.CatalogueLength ∷ Answer·.NoDisk ∷ Answer·.NotSound ∷ Answer·.DiskLength ∷ Answer·.IdZero
-    ∷ Answer·.IdMissing ∷ Answer·.IdThere ∷ Answer·.BufferLength ∷ Answer·.PastEnd ∷ Answer·.FilesFull
-    ∷ Answer·.NoSpace ∷ Answer·.LetterUnknown ∷ Answer·.LetterNotAbove ∷ Answer·.ListLength ∷ Answer·.Number 0
-    ∷ Answer·.Number 7 ∷ Answer·.FitsAlready ∷ [])
+pub literal_codes : map (λ r. code_of (reply_of (Err r)))
+    (Refusal·.CatalogueLength ∷ Refusal·.NoDisk ∷ Refusal·.NotSound ∷ Refusal·.DiskLength ∷ Refusal·.IdZero
+    ∷ Refusal·.IdMissing ∷ Refusal·.IdThere ∷ Refusal·.BufferLength ∷ Refusal·.PastEnd ∷ Refusal·.FilesFull
+    ∷ Refusal·.NoSpace ∷ Refusal·.LetterUnknown ∷ Refusal·.LetterNotAbove ∷ Refusal·.ListLength ∷ [])
+    ++ map (λ a. code_of (reply_of (Ok a))) (Answered·.Number 0 ∷ Answered·.Number 7 ∷ Answered·.FitsAlready ∷ [])
     ≡ negsuc 0 ∷ negsuc 1 ∷ negsuc 2 ∷ negsuc 3 ∷ negsuc 4 ∷ negsuc 5 ∷ negsuc 6 ∷ negsuc 7 ∷ negsuc 8 ∷ negsuc 9
     ∷ negsuc 10 ∷ negsuc 11 ∷ negsuc 12 ∷ negsuc 13 ∷ pos 0 ∷ pos 7 ∷ pos 256 ∷ []
 literal_codes = refl

@@ -1,5 +1,4 @@
 -- The laws of the exported calls, by subject.
-pub mod Signed
 pub mod CodesApart
 mod Within
 mod Promising

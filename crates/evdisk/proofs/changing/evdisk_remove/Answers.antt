@@ -1,6 +1,6 @@
 -- `evdisk::changing::evdisk_remove` meets its contract: the call's outcome, its answer a number. Assumes nothing.
 use mathlib.Core.Path.{◌∙◌, ap, refl, sym}
-use Rattle.looking.specs.Answers.{reply_of}
+use Rattle.answers.specs.Answers.{reply_of}
 use Rattle.manager.proofs.Untouched.{remove_no_output}
 use Rattle.manager.specs.Call.{remove}
 use Rattle.evdisk.specs.Codes.{code_of}

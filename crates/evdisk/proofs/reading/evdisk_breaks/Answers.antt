@@ -1,7 +1,7 @@
 -- `evdisk::reading::evdisk_breaks` meets its contract: the call's outcome, its answer a number. Assumes nothing.
 use mathlib.Core.List.{[]}
 use mathlib.Core.Path.{◌∙◌, ap, refl, sym}
-use Rattle.looking.specs.Answers.{reply_of}
+use Rattle.answers.specs.Answers.{reply_of}
 use Rattle.evdisk.specs.Codes.{code_of}
 use Rattle.evdisk.proofs.Within.{breaks_never_fits, code_within_ones}
 use Rattle.evdisk.proofs.reading.evdisk_breaks.Goals as goal

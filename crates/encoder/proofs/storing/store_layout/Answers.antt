@@ -42,7 +42,8 @@ write_pairs-end-requires c =
     let f = c.write_entries-after_files in record {
       width = z.width;
       each = free-low c.args.version.heights z.most_heights y c.requires.sound;
-      room = free-room c.args.version known.0 y _ n c.requires.sound c.args.cat.now known.1 _ _ h.ensures _ _ f.ensures;
+      room = free-room c.args.version known.0 y _ n c.requires.sound c.args.cat.now known.1 _ _ h.ensures _ _
+          f.ensures;
     }
 
 pub clear-requires : goal.clear-requires

@@ -1,5 +1,8 @@
 // A table stored as the bytes of a catalogue, front to back: each function writes its bytes from `at` on and answers
 // the position after them, and `clear` writes the zero bytes after the last.
+//
+// `cat`, `at` and `width` go as parameters: a struct of them is no plainer, since each function would promise besides
+// that it keeps the reference and the width.
 ghost use Rattle.std.specs.Prelude.{map, ◌++◌, ◌≡◌, ◌-◌, ◌≤◌, length, replicate, take};
 ghost use Rattle.section.specs.Heights.{NoHigher};
 ghost use Rattle.layout.specs.Lists.{Each};

@@ -1,7 +1,7 @@
 // A piece in one word: its first block and its height.
 //
 // Tables and lists of pieces go by value, so what a call costs depends on how long a piece is.
-#![tactic(auto)]
+#![tactic(auto, unfolding(crate::specs::Packed::section_in))]
 
 ghost use Rattle.std.specs.Prelude.{◌≡◌};
 ghost use Rattle.piece.specs.Packed.{FitsWord, Packs, section_in};
@@ -18,17 +18,18 @@ impl Piece {
     // How many heights a word tells apart.
     pub const HEIGHTS: u32 = 32;
 
-    // The word of a section.
+    // The word of a section. No `From`, which takes any section: only one that fits has a word.
+    #[tactic(auto, using(crate::proofs::Packing::packed), unfolding(crate::specs::Packed::piece_of))]
     pub fn of(section: Section) -> Piece
         requires { FitsWord section }
         ensures { Packs section result }
     {
-        let h = section.height;
-        let word = section.first * Piece::HEIGHTS + h.value;
-        Piece { word }
+        Piece {
+            word: section.first * Piece::HEIGHTS + section.height.value,
+        }
     }
 
-    // The section in the word.
+    // The section in the word. A `From` is no plainer: this stands beside `height` and `first`, the parts of it.
     pub fn section(self) -> Section
         ensures { result ≡ section_in self }
     {

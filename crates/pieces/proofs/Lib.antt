@@ -1,4 +1,3 @@
 -- The laws of a file's pieces, by subject, and the proofs of the functions.
-pub mod PieceCounts
 pub mod SeenSums
 pub mod SoundPieces

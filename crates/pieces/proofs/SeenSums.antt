@@ -1,6 +1,6 @@
--- What holds of some pieces by their words, in the library's terms, and by the sections seen in them: their blocks, and
--- that every height has a length. Assumes nothing.
-use Rattle.std.proofs.Common.{◌≡◌, ◌+◌, ◌*◌, ◌^◌, ◌≤◌, ◌∙◌, ap, refl, zero, suc, List, [], ◌∷◌, All, arith, length}
+-- The blocks of pieces: by their words they are those of the sections seen in them, and a file's are not too many.
+-- Assumes nothing.
+use Rattle.std.proofs.Common.{◌≡◌, ◌+◌, ◌*◌, ◌^◌, ◌≤◌, ◌∙◌, ap, refl, List, [], ◌∷◌, arith, length}
 use Rattle.std.proofs.Math.Pow.{pow_mono}
 use Rattle.std.specs.List.{sum_by}
 use Rattle.std.proofs.lemmas.List.{length-take}
@@ -13,18 +13,12 @@ use Rattle.piece.specs.Packed.{seen}
 use Rattle.piece.specs.declared.Piece.{Piece}
 use Rattle.piece_lists.specs.Few.{list_of, piece_places}
 use Rattle.piece_lists.specs.declared.Pieces.{Pieces}
-use Rattle.pieces.specs.Pieces.{Low, LowPiece, most_of_file, piece_blocks}
+use Rattle.pieces.specs.Pieces.{Low, most_of_file, piece_blocks}
 
 pub sum-seen : (l : List Piece) → sum_by piece_blocks l ≡ block_count (seen l)
 unfolding seen
 sum-seen [] = refl
 sum-seen (p ∷ l) = sum_by-cons piece_blocks p l ∙ ap (λ n. piece_blocks p + n) (sum-seen l)
-
-pub low-seen : (l : List Piece) → Each Low (seen l) → All LowPiece l
-unfolding seen
-low-seen [] e k d h = absurd (omega arith)
-low-seen (p ∷ l) (more q e) zero d h = q
-low-seen (p ∷ l) (more q e) (suc k) d h = low-seen l e k d (omega arith)
 
 low-most : (l : List Section) → Each Low l → block_count l ≤ length l * 2 ^ greatest_height
 low-most [] e = omega arith

@@ -4,7 +4,8 @@ use Rattle.piece.proofs.Seen.{seen-take}
 use Rattle.layout.specs.Layout.{block_count}
 use Rattle.layout.specs.Lists.{Each}
 use Rattle.free_pieces.specs.Free.{free_of}
-use Rattle.pieces.proofs.SeenSums.{low-seen, sum-seen}
+use Rattle.piece_lists.proofs.SeenPlaces.{all-seen}
+use Rattle.pieces.proofs.SeenSums.{sum-seen}
 use Rattle.pieces.proofs.SoundPieces.{free-low}
 use Rattle.pieces.specs.Pieces.{Low}
 use Rattle.looking.proofs.FreeSum.{free-blocks, free_most}
@@ -16,7 +17,7 @@ blocks_in-requires-clause-low c =
     let t = c.args.t in
     let f = t.free in
     let e = seen-take f.count f.items in
-    low-seen (take f.count f.items) (subst (Each Low) e (free-low t c.requires.sized c.requires.rules))
+    all-seen (take f.count f.items) (subst (Each Low) e (free-low t c.requires.sized c.requires.rules))
 
 pub blocks_in-requires-clause-fits : goal.blocks_in-requires-clause-fits
 blocks_in-requires-clause-fits c =

@@ -24,6 +24,7 @@ impl Letter {
     pub const PLACE: usize = 6;
 
     // The rank, if the letter is one of the four.
+    #[tactic(auto, unfolding(crate::specs::Letters::rank_of))]
     pub fn rank(self) -> Option<Rank>
         ensures { rank_number result ≡ rank_of self.byte }
     {

@@ -1,17 +1,15 @@
--- Lists of words seen as lists of sections: one more at a place, one fewer, and an item that was read. Assumes nothing.
+-- Lists of words seen as lists of sections: one more at a place, one fewer, and each of them. Assumes nothing.
 use mathlib.Core.List.{List, [], ◌++◌, ◌∷◌}
-use mathlib.Core.Path.{◌∙◌, ◌≡◌, ap, ap₂, subst, sym}
-use Prim.Native.Nat.{◌<◌, ◌≤◌, suc, zero, ℕ}
+use mathlib.Core.Path.{◌∙◌, ◌≡◌, ap, ap₂, sym}
+use Prim.Native.Nat.{suc, zero, ℕ}
 use native.Mathlib.Omega.{arith}
-use lib.ListN.{drop, get_or, length, take}
+use lib.ListN.{drop, take}
 use Rattle.std.specs.Prelude.{All}
-use Rattle.section.specs.Sections.{section}
 use Rattle.section.specs.declared.Section.{Section}
 use Rattle.layout.specs.Lists.{Each, more}
-use Rattle.piece.proofs.Seen.{seen-append, seen-cons, seen-drop, seen_get, seen-length, seen-take}
-use Rattle.piece.specs.Packed.{no_piece, section_in, seen}
+use Rattle.piece.proofs.Seen.{seen-append, seen-cons, seen-drop, seen-take}
+use Rattle.piece.specs.Packed.{section_in, seen}
 use Rattle.piece.specs.declared.Piece.{Piece}
-use Rattle.piece_lists.proofs.EachItem.{each_taken}
 use Rattle.piece_lists.specs.Places.{with_at, without_at}
 
 pub seen-with : (i : ℕ) (p : Piece) (l : List Piece) → seen (with_at i p l) ≡ with_at i (section_in p) (seen l)
@@ -24,13 +22,6 @@ pub seen-without : (i : ℕ) (l : List Piece) → seen (without_at i l) ≡ with
 unfolding without_at
 seen-without i l =
     seen-append (take i l) (drop (suc i) l) ∙ ap₂ ◌++◌ (sym (seen-take i l)) (sym (seen-drop (suc i) l))
-
--- the section in one of the first m words, where each has P
-pub each_read : {P : Section → Type 0} (l : List Piece) (m i : ℕ) (r : Section) → m ≤ length l
-    → Each P (take m (seen l)) → i < m → r ≡ section_in (get_or l i no_piece) → P r
-each_read {P = P} l m i r h e lt q =
-    subst P (seen_get l i ∙ sym q)
-    (each_taken {P = P} (seen l) m i (section 0 0) (omega (arith, seen-length l)) e lt)
 
 -- each of the words, where each of the sections seen has P
 pub all-seen : {P : Section → Type 0} (l : List Piece) → Each P (seen l) → All (λ p. P (section_in p)) l

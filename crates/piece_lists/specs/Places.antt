@@ -1,5 +1,5 @@
 -- Places in a list: where the first stands that passes a test, one more and one fewer at a place. Definitions only.
-use Rattle.std.specs.Prelude.{Bool, false, true, List, [], ◌++◌, ◌∷◌, ◌≡◌, ◌≤◌, suc, ℕ, drop, take}
+use Rattle.std.specs.Prelude.{Bool, false, true, List, [], ◌++◌, ◌∷◌, suc, ℕ, drop, take}
 
 -- how many stand before the first that passes the test
 unfoldable pub first_place : {A : Type 0} → (A → Bool) → List A → ℕ
@@ -13,8 +13,3 @@ without_at i l = take i l ++ drop (suc i) l
 -- with one more, at place i
 unfoldable pub with_at : {A : Type 0} → ℕ → A → List A → List A
 with_at i a l = take i l ++ (a ∷ drop i l)
-
--- r is the place i, which is one of n or the end
-pub record IsPlace (n i r : ℕ) : Type 0 where
-  pub most : r ≤ n
-  pub place : r ≡ i

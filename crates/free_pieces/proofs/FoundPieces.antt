@@ -1,5 +1,5 @@
--- What a search among pieces finds, said of the sections in them, and the piece at a place of a loop. Assumes
--- nothing.
+-- What a search among pieces finds, said of the sections in them, the piece at a place of a loop, and pieces in the
+-- first places of an array. Assumes nothing.
 use Rattle.std.proofs.Common.{◌<◌, ◌≡◌, ◌≤◌, ◌∙◌, ap, arith, refl, sym, ℕ, Bool, true, false, cond, List, length}
 use Rattle.std.proofs.Common.{None, Some, get_or, take}
 use Rattle.std.specs.List.{position, position_or_len}
@@ -13,7 +13,7 @@ use lib.Seq.{get_or-take}
 use Rattle.std.proofs.lemmas.List.{length-take}
 use Rattle.section.specs.declared.Section.{Section}
 use Rattle.layout.specs.Adding.{nothing, take_first}
-use Rattle.piece.proofs.Seen.{seen_get, seen-length}
+use Rattle.piece.proofs.Seen.{seen_get, seen-length, seen-take}
 use Rattle.piece.specs.Packed.{no_piece, section_in, seen}
 use Rattle.piece.specs.declared.Piece.{Piece}
 use Rattle.free_pieces.proofs.FirstTaken.{FirstAt, take_none}
@@ -48,3 +48,10 @@ pub read_at : (items l : List Piece) (m j : ℕ) (s : Section) → l ≡ take m 
 read_at items l m j s e lt q =
     let below : j < m = omega (arith, lt, ap length e, length-take m items) in
     (below, q ∙ ap section_in (ap (λ k. get_or k j no_piece) e ∙ get_or-take m items j no_piece below))
+
+-- the pieces of a list in the first places of an array
+pub first_places : (items l k : List Piece) (n : ℕ) → k ≡ take n items → n ≤ length items → take (length k) l ≡ k
+    → take n (seen l) ≡ seen k
+first_places items l k n e h f =
+    let m : n ≡ length k = omega (arith, h, ap length e, length-take n items) in
+    ap (λ i. take i (seen l)) m ∙ seen-take (length k) l ∙ ap seen f

@@ -3,10 +3,10 @@ use mathlib.Core.Bool.{Bool, ◌&&◌, false, true}
 use mathlib.Core.List.{List, [], ◌++◌, ◌∷◌, append-nil, map}
 use mathlib.Core.Path.{◌∙◌, ◌≡◌, ap, refl, sym}
 use Prim.Native.Nat.{◌+◌, ◌-◌, ◌<◌, ◌≤◌, suc, ℕ}
-use native.Mathlib.Nat.{le_of_eq}
 use native.Mathlib.Omega.{arith}
 use lib.ListN.{drop, length, length-drop, set, take}
-use lib.Seq.{drop-drop, take_all}
+use lib.Seq.{drop-drop}
+use Rattle.std.proofs.lemmas.List.{take_rest}
 use Rattle.catalogue.specs.Reading.{Read, bad, every, got, read_entries, read_entry, then}
 use Rattle.decoder.proofs.Early.{all_accepted}
 use Rattle.decoder.proofs.Runs.{after_more, after_none, read_after}
@@ -114,7 +114,7 @@ module _ (w : ℕ) (s : List ℕ) (count at i : ℕ) (files : List Entry) (h : i
   one_less = omega arith
 
   whole : take (length s - at) (drop at s) ≡ drop at s
-  whole = take_all _ _ (le_of_eq (length-drop at s))
+  whole = take_rest s at
 
   pub files_bad : accepted (read_entry w (take (length s - at) (drop at s))) ≡ bad
       → FilesLeft w s count at i files ≡ bad

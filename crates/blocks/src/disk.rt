@@ -33,6 +33,7 @@ pub fn copy_run(disk: &mut [u8], from: u32, to: u32, n: u32) -> u32
     ensures copies { Copied disk.old disk.new (copy_run from to n) n result }
     ensures all { result ≡ n }
 {
+    // Block by block, since the two runs may have blocks in common.
     for made in 0..n {
         copy_block(disk, from + made, to + made);
     }

@@ -3,7 +3,7 @@ use mathlib.Core.Bool.{Bool}
 use mathlib.Core.List.{List, [], ◌++◌, ◌∷◌, map}
 use mathlib.Core.Path.{◌∙◌, ◌≡◌, ap, ap₂, refl, sym}
 use Prim.Native.Nat.{◌+◌, ◌-◌, suc, zero, ℕ}
-use lib.Dec.{eqb, leb}
+use lib.Dec.{leb}
 use lib.ListN.{drop, take}
 use Rattle.piece_lists.specs.Few.{list_of}
 use Rattle.layout.proofs.Lists.{map-append, map_insert}
@@ -25,9 +25,6 @@ use Rattle.table.specs.declared.Table.{Table}
 -- where an entry of id i is put
 abbrev pub no_lower_id : ℕ → Entry → Bool
 no_lower_id i e = leb i e.id
-
-abbrev pub entry_has : ℕ → Entry → Bool
-entry_has i e = eqb e.id i
 
 map-take : {A B : Type 0} (f : A → B) (k : ℕ) (l : List A) → take k (map f l) ≡ map f (take k l)
 map-take f zero l = refl

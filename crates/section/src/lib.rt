@@ -105,6 +105,7 @@ impl Section {
     }
 
     // Whether the buddy is a section of a disk of `blocks` blocks.
+    #[tactic(auto, unfolding(crate::specs::Sections::has_buddy))]
     pub fn has_buddy(self, blocks: u32) -> bool
         requires { NoHigher self.height }
         ensures { result ≡ has_buddy blocks self }
@@ -135,6 +136,7 @@ impl Section {
     }
 
     // Whether every block of the section is one of the other's.
+    #[tactic(auto, unfolding(crate::specs::Sections::is_inside))]
     pub fn is_inside(self, other: Section) -> bool
         requires addressable { Addressable self }
         requires addressable_2 { Addressable other }
@@ -144,6 +146,7 @@ impl Section {
     }
 
     // Where the section is once all that lies inside `from` has moved to `to`: at the same distance, or where it was.
+    #[tactic(auto, unfolding(crate::specs::Sections::moved_into, crate::specs::Sections::is_inside))]
     pub fn moved(self, from: Section, to: Section) -> Section
         requires addressable { Addressable self }
         requires addressable_2 { Addressable from }

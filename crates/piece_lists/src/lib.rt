@@ -1,4 +1,5 @@
-// Lists of few pieces as values of the code, their orders, and the breaks of those in page order.
+// Lists of few pieces as values of the code, their orders, and the breaks of those in page order; an item put among
+// the first of an array, and one taken out.
 //
 // A list is the first `count` items of an array, so each value stands for one list of the definitions. One of this size
 // is passed on without a call that copies it.

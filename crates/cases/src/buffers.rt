@@ -9,14 +9,13 @@ use std::io;
 // Writes what the call gives back on a catalogue, cut or followed by zeros, in a buffer of so many bytes.
 fn print_buffer(
     rt: &impl Print,
-    name: &str,
     call: Call,
     size: Size,
     bytes: u32,
     other: bool,
 ) -> io::Result<()> {
     print_mark(rt, size, "large ")?;
-    print(rt, name)?;
+    print!(rt; "{call} ")?;
     if other {
         print_number(rt, "of version ", other_version(size) as u32)?;
         print(rt, " ")?;
@@ -25,21 +24,26 @@ fn print_buffer(
     print_case(
         rt,
         " bytes: ",
-        reply(call, size, bytes as usize, other, 0, 0),
+        reply(call, size, bytes as usize, other, &[]),
     )
 }
 
 // Writes the lines of a call for the lengths of the two catalogues, and those next to and between them.
-pub(crate) fn print_buffers(rt: &impl Print, name: &str, call: Call, size: Size) -> io::Result<()> {
+pub(crate) fn print_buffers(rt: &impl Print, call: Call, size: Size) -> io::Result<()> {
     let small = Section::SMALL_CATALOGUE as u32;
     let large = Section::LARGE_CATALOGUE as u32;
-    print_buffer(rt, name, call, size, small - 1, false)?;
-    print_buffer(rt, name, call, size, small, false)?;
-    print_buffer(rt, name, call, size, small, true)?;
-    print_buffer(rt, name, call, size, small + 1, false)?;
-    print_buffer(rt, name, call, size, small * 2, false)?;
-    print_buffer(rt, name, call, size, large - 1, false)?;
-    print_buffer(rt, name, call, size, large, false)?;
-    print_buffer(rt, name, call, size, large, true)?;
-    print_buffer(rt, name, call, size, large + 1, false)
+    for (bytes, other) in [
+        (small - 1, false),
+        (small, false),
+        (small, true),
+        (small + 1, false),
+        (small * 2, false),
+        (large - 1, false),
+        (large, false),
+        (large, true),
+        (large + 1, false),
+    ] {
+        print_buffer(rt, call, size, bytes, other)?;
+    }
+    Ok(())
 }

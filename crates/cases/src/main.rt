@@ -33,28 +33,18 @@ fn print_limits(rt: &impl Print, cat: &mut [u8], size: Size) -> io::Result<()> {
 
 // Writes the lines of the refusals of all calls.
 fn print_refusals(rt: &impl Print, size: Size) -> io::Result<()> {
-    refusals::print_rows(rt, "format ", Call::Format, size)?;
-    refusals::print_rows(rt, "add ", Call::Add, size)?;
-    refusals::print_rows(rt, "remove ", Call::Remove, size)?;
-    refusals::print_rows(rt, "replace ", Call::Replace, size)?;
-    refusals::print_rows(rt, "read ", Call::Read, size)?;
-    refusals::print_rows(rt, "breaks ", Call::Breaks, size)?;
-    refusals::print_rows(rt, "which ", Call::Which, size)?;
-    refusals::print_rows(rt, "free ", Call::Free, size)?;
-    refusals::print_rows(rt, "check ", Call::Check, size)
+    for call in Call::ALL {
+        refusals::print_rows(rt, call, size)?;
+    }
+    Ok(())
 }
 
 // Writes the lines of all calls in buffers of many lengths.
 fn print_buffers(rt: &impl Print, size: Size) -> io::Result<()> {
-    buffers::print_buffers(rt, "format ", Call::Format, size)?;
-    buffers::print_buffers(rt, "add ", Call::Add, size)?;
-    buffers::print_buffers(rt, "remove ", Call::Remove, size)?;
-    buffers::print_buffers(rt, "replace ", Call::Replace, size)?;
-    buffers::print_buffers(rt, "read ", Call::Read, size)?;
-    buffers::print_buffers(rt, "breaks ", Call::Breaks, size)?;
-    buffers::print_buffers(rt, "which ", Call::Which, size)?;
-    buffers::print_buffers(rt, "free ", Call::Free, size)?;
-    buffers::print_buffers(rt, "check ", Call::Check, size)
+    for call in Call::ALL {
+        buffers::print_buffers(rt, call, size)?;
+    }
+    Ok(())
 }
 
 fn main(rt: HostRuntime) -> io::Result<()> {

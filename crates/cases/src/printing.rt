@@ -1,7 +1,6 @@
 // What the cases write.
 use crate::stores::Size;
-use case_inputs::number_of;
-use looking::Answer;
+use answers::{Answer, Answered};
 use std::io;
 
 // Writes words.
@@ -23,13 +22,11 @@ pub(crate) fn print_mark(rt: &impl Print, size: Size, words: &str) -> io::Result
 }
 
 // Writes what a call gave back.
-pub(crate) fn print_answer(rt: &impl Print, a: Answer) -> io::Result<()> {
-    if let Answer::Number(n) = a {
-        print_number(rt, "answered ", n)
-    } else if let Answer::FitsAlready = a {
-        print(rt, "fits already")
-    } else {
-        print_number(rt, "refused ", number_of(a))
+pub(crate) fn print_answer(rt: &impl Print, answer: Answer) -> io::Result<()> {
+    match answer {
+        Ok(Answered::Number(n)) => print_number(rt, "answered ", n),
+        Ok(Answered::FitsAlready) => print(rt, "fits already"),
+        Err(refusal) => print_number(rt, "refused ", refusal.number()),
     }
 }
 

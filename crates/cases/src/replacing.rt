@@ -2,7 +2,7 @@
 use crate::printing::{print_case, print_limit, print_mark, print_number, print_same};
 use crate::stores;
 use crate::stores::{Size, page};
-use looking::Answer;
+use answers::Answer;
 use std::io;
 
 // Writes a line of one letter over another.
@@ -30,20 +30,18 @@ fn print_letter(
 
 // Each of the four letters, and one outside them, over a stored one.
 fn print_letters_over(rt: &impl Print, cat: &mut [u8], size: Size, stored: u8) -> io::Result<()> {
-    print_letter(rt, cat, size, stored, b'R')?;
-    print_letter(rt, cat, size, stored, b'D')?;
-    print_letter(rt, cat, size, stored, b'Q')?;
-    print_letter(rt, cat, size, stored, b'M')?;
-    print_letter(rt, cat, size, stored, b'm')
+    for &letter in b"RDQMm" {
+        print_letter(rt, cat, size, stored, letter)?;
+    }
+    Ok(())
 }
 
 // Each letter over each of the four, and over one outside them.
 pub(crate) fn print_letters(rt: &impl Print, cat: &mut [u8], size: Size) -> io::Result<()> {
-    print_letters_over(rt, cat, size, b'm')?;
-    print_letters_over(rt, cat, size, b'R')?;
-    print_letters_over(rt, cat, size, b'D')?;
-    print_letters_over(rt, cat, size, b'Q')?;
-    print_letters_over(rt, cat, size, b'M')
+    for &stored in b"mRDQM" {
+        print_letters_over(rt, cat, size, stored)?;
+    }
+    Ok(())
 }
 
 // Pages of which the first has this quality letter, and each other one the highest.
@@ -117,7 +115,7 @@ fn two_pages() -> [u8; 1024] {
 // Formats, and adds three files of a page each.
 fn add_three(cat: &mut [u8], disk: &mut [u8]) {
     stores::fill(cat, disk, 3, &page(b'R', 2));
-    event_disk::add(cat, disk, 3, &page(b'R', 3));
+    let _ = event_disk::add(cat, disk, 3, &page(b'R', 3));
 }
 
 // Reads a file into a buffer of its length, and writes whether its pages are these.
@@ -158,7 +156,7 @@ fn print_beside(
     let mut other_disk = [0; 33792];
     add_three(other, &mut other_disk);
     let a = event_disk::remove(other, &mut other_disk, 1);
-    event_disk::add(other, &mut other_disk, 1, &two_pages());
+    let _ = event_disk::add(other, &mut other_disk, 1, &two_pages());
     print_limit(rt, size, "1 page removed, and 2 added: ", a)?;
     print_same(rt, size, "the catalogue then: ", cat, other)?;
     print_same(rt, size, "the disk then: ", disk, &other_disk)

@@ -46,8 +46,8 @@ pub(crate) fn page(letter: u8, byte: u8) -> [u8; 512] {
 
 // Formats, and adds the files from 1 up to, and not including, `end`, each with the content.
 pub(crate) fn fill(cat: &mut [u8], disk: &mut [u8], end: u16, content: &[u8]) {
-    event_disk::format(cat, disk);
+    let _ = event_disk::format(cat, disk);
     for id in 1..end {
-        event_disk::add(cat, disk, id, content);
+        let _ = event_disk::add(cat, disk, id, content);
     }
 }

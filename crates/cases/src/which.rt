@@ -1,24 +1,8 @@
 // Which removal would let so many blocks in: what is answered, and the list afterwards; and what the removals do.
-ghost use Rattle.std.specs.Prelude.{◌≤◌};
-
 use crate::printing::{print, print_answer, print_case, print_limit, print_mark, print_number};
 use crate::stores;
 use crate::stores::Size;
 use std::io;
-
-// Where the numbers that are n end, from a place on.
-fn end_of_run(list: &[u16], from: usize, n: u16) -> usize
-    ensures { from ≤ result }
-{
-    let mut i = from;
-    while i < list.len() {
-        if list[i] != n {
-            return i;
-        }
-        i = i + 1;
-    }
-    i
-}
 
 // Writes a number that stands so many times from place i on, after what parts it from those before: places from 16, 32
 // and 48 on begin a line.
@@ -38,12 +22,11 @@ fn print_run(rt: &impl Print, i: usize, n: u16, times: usize) -> io::Result<()> 
 
 // Writes a list, equal numbers that follow each other as one.
 fn print_list(rt: &impl Print, list: &[u16]) -> io::Result<()> {
-    let mut i = 0;
-    while i < list.len() {
-        let n = list[i];
-        let end = end_of_run(list, i + 1, n);
-        print_run(rt, i, n, end - i)?;
-        i = end;
+    for (i, &n) in list.iter().enumerate() {
+        if i == 0 || list[i - 1] != n {
+            let times = list[i..].iter().take_while(|m| **m == n).count();
+            print_run(rt, i, n, times)?;
+        }
     }
     Ok(())
 }
@@ -72,22 +55,18 @@ fn print_which(rt: &impl Print, cat: &[u8], size: Size, n: u64, files: &str) -> 
 
 // Case 6 of document 01: files of 3 blocks, 1 and 2 are added to 16.
 fn add_case_six(cat: &mut [u8], disk: &mut [u8]) {
-    event_disk::format(cat, disk);
-    event_disk::add(cat, disk, 5, &[7; 1536]);
-    event_disk::add(cat, disk, 9, &[7; 512]);
-    event_disk::add(cat, disk, 2, &[7; 1024]);
+    let _ = event_disk::format(cat, disk);
+    let _ = event_disk::add(cat, disk, 5, &[7; 1536]);
+    let _ = event_disk::add(cat, disk, 9, &[7; 512]);
+    let _ = event_disk::add(cat, disk, 2, &[7; 1024]);
 }
 
 // 10 blocks are free then.
 fn print_case_six(rt: &impl Print, cat: &[u8], size: Size) -> io::Result<()> {
-    print_which(rt, cat, size, 1, " in case 6: ")?;
-    print_which(rt, cat, size, 10, " in case 6: ")?;
-    print_which(rt, cat, size, 11, " in case 6: ")?;
-    print_which(rt, cat, size, 12, " in case 6: ")?;
-    print_which(rt, cat, size, 13, " in case 6: ")?;
-    print_which(rt, cat, size, 14, " in case 6: ")?;
-    print_which(rt, cat, size, 18446744073709551615, " in case 6: ")?;
-    print_which(rt, cat, size, 0, " in case 6: ")
+    for n in [1, 10, 11, 12, 13, 14, 18446744073709551615, 0] {
+        print_which(rt, cat, size, n, " in case 6: ")?;
+    }
+    Ok(())
 }
 
 // The same disk, and lists that have not 64 places.
@@ -114,16 +93,15 @@ fn print_places(rt: &impl Print, cat: &[u8], size: Size) -> io::Result<()> {
 // The files 1 to 4 of 3 blocks each and then 6 of 2 are added to 16.
 fn add_five(cat: &mut [u8], disk: &mut [u8]) {
     stores::fill(cat, disk, 5, &[7; 1536]);
-    event_disk::add(cat, disk, 6, &[7; 1024]);
+    let _ = event_disk::add(cat, disk, 6, &[7; 1024]);
 }
 
 // 2 blocks are free then.
 fn print_five(rt: &impl Print, cat: &[u8], size: Size) -> io::Result<()> {
-    print_which(rt, cat, size, 2, " in five files: ")?;
-    print_which(rt, cat, size, 3, " in five files: ")?;
-    print_which(rt, cat, size, 5, " in five files: ")?;
-    print_which(rt, cat, size, 6, " in five files: ")?;
-    print_which(rt, cat, size, 17, " in five files: ")
+    for n in [2, 3, 5, 6, 17] {
+        print_which(rt, cat, size, n, " in five files: ")?;
+    }
+    Ok(())
 }
 
 // Removes one of the five files by itself, then adds what that lets in, and writes a line of each.
@@ -160,14 +138,15 @@ fn print_five_removed(rt: &impl Print, cat: &mut [u8], size: Size) -> io::Result
 fn print_most(rt: &impl Print, cat: &mut [u8], size: Size) -> io::Result<()> {
     let mut disk = [0; 33280];
     stores::fill(cat, &mut disk, 65, &[7; 512]);
-    print_which(rt, cat, size, 1, " in 64 files: ")?;
-    print_which(rt, cat, size, 2, " in 64 files: ")?;
-    print_which(rt, cat, size, 3, " in 64 files: ")
+    for n in [1, 2, 3] {
+        print_which(rt, cat, size, n, " in 64 files: ")?;
+    }
+    Ok(())
 }
 
 // 16 free blocks.
 fn print_no_file(rt: &impl Print, cat: &mut [u8], size: Size) -> io::Result<()> {
-    event_disk::format(cat, &[0; 8192]);
+    let _ = event_disk::format(cat, &[0; 8192]);
     print_which(rt, cat, size, 16, " in no file: ")?;
     print_which(rt, cat, size, 17, " in no file: ")
 }

@@ -1,5 +1,5 @@
 // Fields and pairs of fields, read at a place of the catalogue.
-ghost use Rattle.std.specs.Prelude.{◌≡◌, ◌+◌, ◌<◌, ◌≤◌, length};
+ghost use Rattle.std.specs.Prelude.{◌+◌, ◌≤◌, length};
 ghost use Rattle.catalogue.specs.Version.{short_field, widest_field};
 ghost use Rattle.piece_lists.specs.Few.{piece_places};
 ghost use Rattle.decoder.specs.Fields.{FieldAt, PairAt, PairsAt};

@@ -1,5 +1,5 @@
 // The whole catalogue, read into a table.
-ghost use Rattle.std.specs.Prelude.{◌≡◌, ◌≤◌, length};
+ghost use Rattle.std.specs.Prelude.{◌≡◌, length};
 ghost use Rattle.catalogue.specs.Version.{Served};
 ghost use Rattle.decoder.specs.Loading.{HeaderAt, TableAt};
 

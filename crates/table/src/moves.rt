@@ -3,7 +3,7 @@ ghost use Rattle.std.specs.Prelude.{map, ◌≡◌};
 ghost use Rattle.std.specs.List.{All, position};
 ghost use Rattle.section.specs.Sections.{Addressable, is_inside};
 ghost use Rattle.layout.specs.Lists.{Each};
-ghost use Rattle.piece.specs.Packed.{section_in, seen};
+ghost use Rattle.piece.specs.Packed.{section_in};
 ghost use Rattle.table.specs.Tables.{InPlaces, pieces_in};
 ghost use Rattle.table.specs.Moves.{CanMove, PiecesServed, lies_in, moved_entry};
 

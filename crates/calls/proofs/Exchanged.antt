@@ -20,6 +20,7 @@ use Rattle.layout.specs.Adding.{allocate}
 use Rattle.layout.specs.Layout.{Layout}
 use Rattle.layout.specs.Removing.{copies_of}
 use Rattle.looking.proofs.FreeSum.{opened_sums}
+use Rattle.looking.specs.FileIds.{FindsFile}
 use Rattle.manager.proofs.CanReplace.{replace_allowed}
 use Rattle.manager.specs.Changes.{without}
 use Rattle.manager.specs.Conditions.{Outcome, answered, outcome, unless_refused}
@@ -31,11 +32,12 @@ use Rattle.table.specs.Tables.{layout_of}
 use Rattle.table.specs.declared.Table.{Table}
 
 module _ (t : Table) (i id n : ℕ) (bs d : List ℕ) (c : CanExchange t i id n bs d) where
+  found_there : FindsFile t id i
+  found_there = record { least = c.compared.least; place = c.compared.place }
+
   -- what taking the file out asks for
   pub exchange_can_take : CanTakeOut t i (length d)
-  exchange_can_take =
-      remove_can_take t c.compared.opened id d c.compared.disk (λ z. omega (arith, c.compared.least)) i
-      c.compared.place
+  exchange_can_take = remove_can_take t c.compared.opened id d c.compared.disk i found_there
 
   module _ (d' : List ℕ) (s : Settled) (e : TakesOut t i d d' s) (same : length d' ≡ length d) where
     room : RoomAfter (layout_of t) id (file_at t i) (layout_of s.table)
@@ -48,8 +50,7 @@ module _ (t : Table) (i id n : ℕ) (bs d : List ℕ) (c : CanExchange t i id n 
     unfolding layout_of
     left_blocks =
         ap (λ (l : Layout). l.blocks) e.layout
-        ∙ removed-blocks t c.compared.opened id d c.compared.disk (λ z. omega (arith, c.compared.least)) i
-        c.compared.place
+        ∙ removed-blocks t c.compared.opened id d c.compared.disk i found_there
 
     -- what placing the new one asks for
     pub exchange_can_add : CanAdd s.table id n (length d') bs

@@ -12,11 +12,12 @@ use Rattle.calls.proofs.Refusing.{refused_makes}
 use Rattle.calls.specs.Changing.{Makes, replace_found, replace_on}
 use Rattle.calls.specs.Replacing.{CanCompare, CanExchange}
 use Rattle.calls.specs.TakingOut.{file_at}
-use Rattle.layout.specs.Layout.{File, block_count, file_blocks, find_file, found, free_blocks, missing}
-use Rattle.looking.proofs.LookChecks.{disk_right, disk_wrong, id_found, id_missing_lem, id-zero}
+use Rattle.layout.specs.Layout.{File, block_count, file_blocks, find_file, found, free_blocks}
+use Rattle.looking.proofs.LookChecks.{disk_right, disk_wrong, id_found}
 use Rattle.looking.proofs.LookedUp.{looked_fits, looked_found, looked_low, looked_some}
 use Rattle.answers.specs.Answers.{number_of}
 use Rattle.std.specs.Prelude.{Err}
+use Rattle.looking.specs.FileIds.{FindsNone}
 use Rattle.looking.specs.Opened.{Opened}
 use Rattle.answers.specs.declared.Refusal.{Refusal}
 use Rattle.answers.specs.declared.Refusal.TheVariants as Refusal·
@@ -65,23 +66,20 @@ module _ (t : Table) (o : Opened t) (i : ℕ) (bs d : List ℕ) where
     unfolding layout_of
     past_disk = disk_right (layout_of t) d (replace_checks i bs d (layout_of t)) right
 
-    pub refuse-zero : i ≡ 0 → Refuses Refusal·.IdZero
-    refuse-zero z = refuse 5 Refusal·.IdZero refl (past_disk ∙ id-zero (layout_of t) i from_8 z)
+    -- the file is not found
+    pub refuse_unfound : (a : Refusal) → FindsNone t i a → Refuses a
+    refuse_unfound a n = refuse (number_of a) a refl (past_disk ∙ n.first from_8)
 
-    module _ (some : i ≡ 0 → ⊥) where
-      pub refuse_missing : find_file i (layout_of t).files ≡ missing → Refuses Refusal·.IdMissing
-      refuse_missing e = refuse 6 Refusal·.IdMissing refl (past_disk ∙ id_missing_lem (layout_of t) i from_8 some e)
+    module _ (some : 1 ≤ i) (f : File) (e : find_file i (layout_of t).files ≡ found f) where
+      past_id : first_refusal checks ≡ first_refusal from_8
+      past_id = past_disk ∙ id_found (layout_of t) i from_8 some f e
 
-      module _ (f : File) (e : find_file i (layout_of t).files ≡ found f) where
-        past_id : first_refusal checks ≡ first_refusal from_8
-        past_id = past_disk ∙ id_found (layout_of t) i from_8 some f e
+      pub refuse-unpaged : unpaged bs ≡ true → Refuses Refusal·.BufferLength
+      refuse-unpaged u =
+          refuse 8 Refusal·.BufferLength refl (past_id ∙ refuses_by (condition 8 (unpaged bs)) from_12 u)
 
-        pub refuse-unpaged : unpaged bs ≡ true → Refuses Refusal·.BufferLength
-        refuse-unpaged u =
-            refuse 8 Refusal·.BufferLength refl (past_id ∙ refuses_by (condition 8 (unpaged bs)) from_12 u)
-
-        past_pages : unpaged bs ≡ false → first_refusal checks ≡ first_refusal from_12
-        past_pages u = past_id ∙ passes (condition 8 (unpaged bs)) from_12 u
+      past_pages : unpaged bs ≡ false → first_refusal checks ≡ first_refusal from_12
+      past_pages u = past_id ∙ passes (condition 8 (unpaged bs)) from_12 u
 
 -- ---- past the content's length
 
@@ -109,8 +107,7 @@ module _ (t : Table) (i id : ℕ) (bs d : List ℕ) (c : CanCompare t i id bs d)
   compared_low = looked_low t c.opened id i c.place
 
   past_content : first_refusal (checks t c.opened id bs d) ≡ first_refusal (from_12 t c.opened id bs d)
-  past_content =
-      past_pages t c.opened id bs d c.disk (λ z. omega (arith, c.least)) (file_at t i) there c.paged
+  past_content = past_pages t c.opened id bs d c.disk c.least (file_at t i) there c.paged
 
   module _ (new : ℕ) (is-new : new ≡ first_rank (cut_pages (page_count bs) bs)) where
     pub refuse_unknown : new ≡ 0 → RefusesFound Refusal·.LetterUnknown

@@ -7,6 +7,7 @@ ghost use Rattle.calls.specs.TakingOut.{CanTakeOut, TakesOut};
 
 use crate::Changed;
 use answers::Refusal;
+use looking::find;
 use section::Section;
 use settling::{Settled, settle};
 use table::Table;
@@ -29,12 +30,7 @@ pub fn remove_in(disk: &mut [u8], t: Table, id: u16) -> Result<Changed, Refusal>
     if disk.len() != Section::BLOCK_SIZE * (t.blocks as usize) {
         return Err(Refusal::DiskLength);
     }
-    if id == 0 {
-        return Err(Refusal::IdZero);
-    }
-    let Some(i) = t.look_up(id as u32).file else {
-        return Err(Refusal::IdMissing);
-    };
+    let i = find(t, id)?;
     let s = take_out(disk, t, i);
     Ok(Changed {
         number: s.copied,

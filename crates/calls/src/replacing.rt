@@ -8,7 +8,7 @@ use crate::Changed;
 use crate::adding::place_file;
 use crate::removing::take_out;
 use answers::Refusal;
-use looking::free_in;
+use looking::{find, free_in};
 use quality::Letter;
 use section::Section;
 use table::Table;
@@ -81,12 +81,7 @@ pub fn replace_in(disk: &mut [u8], t: Table, id: u16, content: &[u8]) -> Result<
     if disk.len() != Section::BLOCK_SIZE * (t.blocks as usize) {
         return Err(Refusal::DiskLength);
     }
-    if id == 0 {
-        return Err(Refusal::IdZero);
-    }
-    let Some(i) = t.look_up(id as u32).file else {
-        return Err(Refusal::IdMissing);
-    };
+    let i = find(t, id)?;
     if content.len() == 0 {
         return Err(Refusal::BufferLength);
     }

@@ -2,11 +2,13 @@
 use mathlib.Core.Bool.{◌||◌, false, not, true}
 use mathlib.Core.List.{List, ◌∷◌}
 use mathlib.Core.Path.{◌∙◌, ◌≡◌, ap, ap₂}
-use Prim.Native.Nat.{◌%◌, ◌*◌, ℕ}
+use Prim.Native.Nat.{◌%◌, ◌*◌, ◌≤◌, ℕ}
+use native.Mathlib.Omega.{arith}
 use lib.Dec.{eqb}
 use lib.ListN.{length}
 use borrow.Author.Tests.{eq-eqb, ne_eqb}
 use Rattle.layout.specs.Layout.{File, Layout, find_file, found, has_file, is_found, missing}
+use Rattle.looking.specs.FileIds.{file_conditions}
 use Rattle.manager.proofs.Judging.{passes, refuses_by}
 use Rattle.manager.specs.Conditions.{Condition, condition, first_refusal, refusal, unpaged, wrong_disk}
 use Rattle.section.specs.Limits.{block_size}
@@ -25,23 +27,23 @@ module _ (l : Layout) (d : List ℕ) (cs : List Condition) where
 -- ---- the conditions on the id
 
 module _ (l : Layout) (i : ℕ) (cs : List Condition) where
-  abbrev id_checks : List Condition
-  id_checks = condition 5 (eqb i 0) ∷ condition 6 (not (has_file i l.files)) ∷ cs
-
-  pub id-zero : i ≡ 0 → first_refusal id_checks ≡ refusal 5
+  pub id-zero : i ≡ 0 → first_refusal (file_conditions l i cs) ≡ refusal 5
   id-zero e =
       refuses_by (condition 5 (eqb i 0)) (condition 6 (not (has_file i l.files)) ∷ cs) (eq-eqb i 0 e)
 
-  module _ (n : i ≡ 0 → ⊥) where
-    id_some : first_refusal id_checks ≡ first_refusal (condition 6 (not (has_file i l.files)) ∷ cs)
-    id_some = passes (condition 5 (eqb i 0)) (condition 6 (not (has_file i l.files)) ∷ cs) (ne_eqb i 0 n)
+  module _ (n : 1 ≤ i) where
+    id_some : first_refusal (file_conditions l i cs) ≡ first_refusal (condition 6 (not (has_file i l.files)) ∷ cs)
+    id_some =
+        passes (condition 5 (eqb i 0)) (condition 6 (not (has_file i l.files)) ∷ cs)
+        (ne_eqb i 0 (λ z. omega (arith, n, z)))
 
-    pub id_missing_lem : find_file i l.files ≡ missing → first_refusal id_checks ≡ refusal 6
+    pub id_missing_lem : find_file i l.files ≡ missing → first_refusal (file_conditions l i cs) ≡ refusal 6
     id_missing_lem e =
         id_some
         ∙ refuses_by (condition 6 (not (has_file i l.files))) cs (ap (λ x. not (is_found x)) e)
 
-    pub id_found : (f : File) → find_file i l.files ≡ found f → first_refusal id_checks ≡ first_refusal cs
+    pub id_found : (f : File) → find_file i l.files ≡ found f
+        → first_refusal (file_conditions l i cs) ≡ first_refusal cs
     id_found f e =
         id_some
         ∙ passes (condition 6 (not (has_file i l.files))) cs (ap (λ x. not (is_found x)) e)

@@ -1,14 +1,15 @@
 -- Breaks and checks in code: by what each is refused, and what it answers. Assumes nothing.
 use mathlib.Core.List.{List, [], ◌∷◌}
 use mathlib.Core.Path.{◌∙◌, ◌≡◌, ap, ap₂, sym}
-use Prim.Native.Nat.{◌*◌, ℕ}
+use Prim.Native.Nat.{◌*◌, ◌≤◌, ℕ}
 use lib.ListN.{length}
-use Rattle.looking.proofs.LookChecks.{disk_right, disk_wrong, id_found, id_missing_lem, id-zero}
-use Rattle.layout.specs.Layout.{File, Layout, breaks_of, find_file, found, missing}
+use Rattle.looking.proofs.LookChecks.{disk_right, disk_wrong, id_found}
+use Rattle.looking.specs.FileIds.{file_conditions}
+use Rattle.layout.specs.Layout.{File, Layout, breaks_of, find_file, found}
 use Rattle.layout.specs.Lists.{done}
 use Rattle.manager.proofs.Judging.{none_applies}
-use Rattle.manager.specs.Conditions.{Reply, answered, condition, file_checks, first_refusal, refused, reply_unless}
-use Rattle.manager.specs.Conditions.{wrong_disk}
+use Rattle.manager.specs.Conditions.{Reply, answered, condition, file_checks, first_refusal, refusal, refused}
+use Rattle.manager.specs.Conditions.{reply_unless, wrong_disk}
 use Rattle.manager.specs.Outcomes.{breaks_found}
 use Rattle.section.specs.Limits.{block_size}
 use Rattle.table.specs.Tables.{layout_of}
@@ -20,13 +21,10 @@ module _ (l : Layout) (i : ℕ) where
   abbrev Breaks : Reply → Type 0
   Breaks r = r ≡ reply_unless (first_refusal (file_checks i l)) (breaks_found (find_file i l.files))
 
-  pub breaks-zero : i ≡ 0 → Breaks (refused 5)
-  breaks-zero e = sym (ap (λ j. reply_unless j (breaks_found (find_file i l.files))) (id-zero l i [] e))
+  pub breaks_refused : (n : ℕ) → first_refusal (file_conditions l i []) ≡ refusal n → Breaks (refused n)
+  breaks_refused n e = sym (ap (λ j. reply_unless j (breaks_found (find_file i l.files))) e)
 
-  pub breaks_missing : (i ≡ 0 → ⊥) → find_file i l.files ≡ missing → Breaks (refused 6)
-  breaks_missing n e = sym (ap (λ j. reply_unless j (breaks_found (find_file i l.files))) (id_missing_lem l i [] n e))
-
-  pub breaks_found_lem : (i ≡ 0 → ⊥) → (f : File) → find_file i l.files ≡ found f → (k : ℕ) → k ≡ breaks_of f.pieces
+  pub breaks_found_lem : 1 ≤ i → (f : File) → find_file i l.files ≡ found f → (k : ℕ) → k ≡ breaks_of f.pieces
       → Breaks (answered k)
   breaks_found_lem n f e k q =
       ap answered q

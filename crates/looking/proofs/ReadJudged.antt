@@ -5,10 +5,13 @@ use mathlib.Core.Path.{◌∙◌, ◌≡◌, ap, ap₂, sym}
 use Prim.Native.Nat.{◌%◌, ◌*◌, ◌+◌, ◌<◌, ◌≤◌, ℕ}
 use lib.ListN.{drop, length, take}
 use borrow.Author.Tests.{le-ltb, lt-ltb}
-use Rattle.looking.proofs.LookChecks.{disk_right, disk_wrong, empty-unpaged, id_found, id_missing_lem, id-zero}
+use Rattle.looking.proofs.LookChecks.{disk_right, disk_wrong, empty-unpaged, id_found}
 use Rattle.looking.proofs.LookChecks.{part_unpaged, whole_paged}
+use Rattle.answers.specs.Answers.{number_of}
+use Rattle.answers.specs.declared.Refusal.{Refusal}
+use Rattle.looking.specs.FileIds.{FindsNone}
 use Rattle.looking.specs.Opened.{read_on}
-use Rattle.layout.specs.Layout.{File, file_blocks, find_file, found, missing}
+use Rattle.layout.specs.Layout.{File, file_blocks, find_file, found}
 use Rattle.layout.specs.Lists.{done}
 use Rattle.manager.proofs.Contents.{paged_length}
 use Rattle.manager.proofs.Judging.{none_applies, passes, refuses_by}
@@ -52,13 +55,11 @@ module _ (t : Table) (i p : ℕ) (o d : List ℕ) where
     page_checks =
         condition 8 (unpaged o) ∷ condition 9 (beyond (find_file i (layout_of t).files) p (page_count o)) ∷ []
 
-    pub read-zero : i ≡ 0 → Reads (refused 5) o
-    read-zero e = read_refused_lem 5 (right ∙ id-zero (layout_of t) i page_checks e)
+    -- the file is not found
+    pub read_unfound : (a : Refusal) → FindsNone t i a → Reads (refused (number_of a)) o
+    read_unfound a n = read_refused_lem (number_of a) (right ∙ n.first page_checks)
 
-    pub read_missing : (i ≡ 0 → ⊥) → find_file i (layout_of t).files ≡ missing → Reads (refused 6) o
-    read_missing n e = read_refused_lem 6 (right ∙ id_missing_lem (layout_of t) i page_checks n e)
-
-    module _ (n : i ≡ 0 → ⊥) (f : File) (e : find_file i (layout_of t).files ≡ found f) where
+    module _ (n : 1 ≤ i) (f : File) (e : find_file i (layout_of t).files ≡ found f) where
       past_id : judged ≡ first_refusal page_checks
       past_id = right ∙ id_found (layout_of t) i page_checks n f e
 

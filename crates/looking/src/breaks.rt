@@ -7,7 +7,8 @@ ghost use Rattle.manager.specs.Outcomes.{breaks_found};
 ghost use Rattle.answers.specs.Answers.{reply_of};
 ghost use Rattle.looking.specs.Opened.{Opened};
 
-use answers::{Answer, Answered, Refusal};
+use crate::finding::find;
+use answers::{Answer, Answered};
 use table::Table;
 
 // How many breaks a file has.
@@ -16,12 +17,7 @@ pub fn breaks_in(t: Table, id: u16) -> Answer
     ensures { reply_of result
         ≡ reply_unless (first_refusal (file_checks id (layout_of t))) (breaks_found (find_file id (layout_of t).files)) }
 {
-    if id == 0 {
-        return Err(Refusal::IdZero);
-    }
-    let Some(i) = t.look_up(id as u32).file else {
-        return Err(Refusal::IdMissing);
-    };
+    let i = find(t, id)?;
     let n = t.files[i].pieces.breaks();
     Ok(Answered::Number(n))
 }

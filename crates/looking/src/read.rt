@@ -4,6 +4,7 @@ ghost use Rattle.table.specs.Tables.{layout_of};
 ghost use Rattle.answers.specs.Answers.{reply_of};
 ghost use Rattle.looking.specs.Opened.{Opened, read_on};
 
+use crate::finding::find;
 use answers::{Answer, Answered, Refusal};
 use section::Section;
 use table::Table;
@@ -19,12 +20,7 @@ pub fn read_in(disk: &[u8], t: Table, id: u16, first: u64, out: &mut [u8]) -> An
     if disk.len() != Section::BLOCK_SIZE * (t.blocks as usize) {
         return Err(Refusal::DiskLength);
     }
-    if id == 0 {
-        return Err(Refusal::IdZero);
-    }
-    let Some(i) = t.look_up(id as u32).file else {
-        return Err(Refusal::IdMissing);
-    };
+    let i = find(t, id)?;
     if out.len() == 0 {
         return Err(Refusal::BufferLength);
     }

@@ -2,11 +2,12 @@
 use mathlib.Core.Path.{◌∙◌}
 use native.Mathlib.Omega.{arith}
 use borrow.Author.Rules.{rules}
+use Rattle.std.proofs.lemmas.Result.{err_from_is_err_and}
 use Rattle.table.specs.Files.{entry_at}
 use Rattle.table.specs.Tables.{file_of}
-use Rattle.looking.proofs.LookedUp.{looked_first, looked_fits, looked_found, looked_low, looked_missing, opened_rises}
-use Rattle.looking.proofs.ReadJudged.{read_answered, read_broken, read-empty, read_missing, read_past, read_whole}
-use Rattle.looking.proofs.ReadJudged.{read_wrong, read-zero}
+use Rattle.looking.proofs.LookedUp.{looked_fits, looked_found, looked_low}
+use Rattle.looking.proofs.ReadJudged.{read_answered, read_broken, read-empty, read_past, read_unfound, read_whole}
+use Rattle.looking.proofs.ReadJudged.{read_wrong}
 use Rattle.looking.proofs.read.read_in.Goals as goal
 
 pub returns-then-disk-t : goal.returns-then-disk-t
@@ -17,26 +18,12 @@ returns-then-disk-t c =
       output = whole.1;
     }
 
-pub returns-then-id-eq0 : goal.returns-then-id-eq0
-returns-then-id-eq0 c =
-    let whole = (read-zero c.args.t c.args.id c.args.first c.args.out.now c.args.disk.now c.if-disk-t.false c.if-id-eq0.true) in
-    record {
-      answer = whole.0;
-      output = whole.1;
-    }
-
-pub look_up-requires : goal.look_up-requires
-look_up-requires c =
-    record {
-      count_le_most_files = c.requires.sized.files;
-      by_rising_id = opened_rises c.args.t c.requires;
-    }
-
-pub returns-in_default : goal.returns-in_default
-returns-in_default c =
-    let whole = (read_missing c.args.t c.args.id c.args.first c.args.out.now c.args.disk.now c.if-disk-t.false
-    c.if-id-eq0.false
-    (looked_missing c.args.t c.requires c.args.id c.look_up.result c.look_up.ensures c.in_default.is)) in
+pub returns-in_err-i : goal.returns-in_err-i
+returns-in_err-i c =
+    let whole = (read_unfound c.args.t c.args.id c.args.first c.args.out.now c.args.disk.now c.if-disk-t.false
+    c.in_err-i.field-0.0 c.in_err-i.ensures) in
+    let p = err_from_is_err_and c.from_residual.result c.from_residual.ensures.1 in
+    rw (p.1, p.2)
     record {
       answer = whole.0;
       output = whole.1;
@@ -44,10 +31,10 @@ returns-in_default c =
 
 pub returns-then-out-eq0 : goal.returns-then-out-eq0
 returns-then-out-eq0 c =
-    let whole = (let x = looked_first c.args.t c.requires c.args.id c.look_up.result c.look_up.ensures c.in-Some.is in
+    let whole = (let x = c.in_ok-i.ensures.place in
     read-empty c.args.t c.args.id c.args.first c.args.out.now c.args.disk.now c.if-disk-t.false
-    c.if-id-eq0.false (file_of (entry_at c.args.t c.in-Some.i))
-    (looked_found c.args.t c.requires c.args.id c.in-Some.i x) c.if-out-eq0.true) in
+    c.in_ok-i.ensures.least (file_of (entry_at c.args.t c.in_ok-i.i))
+    (looked_found c.args.t c.requires c.args.id c.in_ok-i.i x) c.if-out-eq0.true) in
     record {
       answer = whole.0;
       output = whole.1;
@@ -55,10 +42,10 @@ returns-then-out-eq0 c =
 
 pub returns-then-out-ne0 : goal.returns-then-out-ne0
 returns-then-out-ne0 c =
-    let whole = (let x = looked_first c.args.t c.requires c.args.id c.look_up.result c.look_up.ensures c.in-Some.is in
+    let whole = (let x = c.in_ok-i.ensures.place in
     read_broken c.args.t c.args.id c.args.first c.args.out.now c.args.disk.now c.if-disk-t.false
-    c.if-id-eq0.false (file_of (entry_at c.args.t c.in-Some.i))
-    (looked_found c.args.t c.requires c.args.id c.in-Some.i x)
+    c.in_ok-i.ensures.least (file_of (entry_at c.args.t c.in_ok-i.i))
+    (looked_found c.args.t c.requires c.args.id c.in_ok-i.i x)
     c.if-out-eq0.false c.if-out-ne0.true) in
     record {
       answer = whole.0;
@@ -67,25 +54,25 @@ returns-then-out-ne0 c =
 
 pub offset_bounds-t-i : goal.offset_bounds-t-i
 offset_bounds-t-i c =
-    let x = looked_first c.args.t c.requires c.args.id c.look_up.result c.look_up.ensures c.in-Some.is in
+    let x = c.in_ok-i.ensures.place in
     search (rules, x.within, c.requires.sized.files)
 
 pub bounds-t-i : goal.bounds-t-i
 bounds-t-i c =
-    let x = looked_first c.args.t c.requires c.args.id c.look_up.result c.look_up.ensures c.in-Some.is in
+    let x = c.in_ok-i.ensures.place in
     omega (arith, x.within, c.requires.sized.files)
 
 pub blocks_of-n-requires : goal.blocks_of-n-requires
 blocks_of-n-requires c =
-    let x = looked_first c.args.t c.requires c.args.id c.look_up.result c.look_up.ensures c.in-Some.is in
-    looked_low c.args.t c.requires c.args.id c.in-Some.i x
+    let x = c.in_ok-i.ensures.place in
+    looked_low c.args.t c.requires c.args.id c.in_ok-i.i x
 
 pub returns-then-count-n : goal.returns-then-count-n
 returns-then-count-n c =
-    let whole = (let x = looked_first c.args.t c.requires c.args.id c.look_up.result c.look_up.ensures c.in-Some.is in
+    let whole = (let x = c.in_ok-i.ensures.place in
     read_past c.args.t c.args.id c.args.first c.args.out.now c.args.disk.now c.if-disk-t.false
-    c.if-id-eq0.false (file_of (entry_at c.args.t c.in-Some.i))
-    (looked_found c.args.t c.requires c.args.id c.in-Some.i x)
+    c.in_ok-i.ensures.least (file_of (entry_at c.args.t c.in_ok-i.i))
+    (looked_found c.args.t c.requires c.args.id c.in_ok-i.i x)
     c.if-out-eq0.false c.if-out-ne0.false
     (omega (arith, c.blocks_of-n.ensures.equal, c.if-count-n.true))) in
     record {
@@ -95,10 +82,10 @@ returns-then-count-n c =
 
 pub returns-then-first-n : goal.returns-then-first-n
 returns-then-first-n c =
-    let whole = (let x = looked_first c.args.t c.requires c.args.id c.look_up.result c.look_up.ensures c.in-Some.is in
+    let whole = (let x = c.in_ok-i.ensures.place in
     read_past c.args.t c.args.id c.args.first c.args.out.now c.args.disk.now c.if-disk-t.false
-    c.if-id-eq0.false (file_of (entry_at c.args.t c.in-Some.i))
-    (looked_found c.args.t c.requires c.args.id c.in-Some.i x)
+    c.in_ok-i.ensures.least (file_of (entry_at c.args.t c.in_ok-i.i))
+    (looked_found c.args.t c.requires c.args.id c.in_ok-i.i x)
     c.if-out-eq0.false c.if-out-ne0.false
     (omega (arith, c.blocks_of-n.ensures.equal, c.if-count-n.false, c.if-first-n.true))) in
     record {
@@ -108,26 +95,26 @@ returns-then-first-n c =
 
 pub read_pages-requires : goal.read_pages-requires
 read_pages-requires c =
-    let x = looked_first c.args.t c.requires c.args.id c.look_up.result c.look_up.ensures c.in-Some.is in
+    let x = c.in_ok-i.ensures.place in
     let n = c.blocks_of-n.ensures.equal in
     record {
       entry =
           rw c.if-disk-t.false
-          (looked_fits c.args.t c.requires c.args.id c.in-Some.i x);
+          (looked_fits c.args.t c.requires c.args.id c.in_ok-i.i x);
       whole =
           read_whole c.args.t c.args.id c.args.first c.args.out.now c.args.disk.now c.if-disk-t.false
-          c.if-id-eq0.false (file_of (entry_at c.args.t c.in-Some.i))
-          (looked_found c.args.t c.requires c.args.id c.in-Some.i x)
+          c.in_ok-i.ensures.least (file_of (entry_at c.args.t c.in_ok-i.i))
+          (looked_found c.args.t c.requires c.args.id c.in_ok-i.i x)
           c.if-out-eq0.false c.if-out-ne0.false;
       pages = omega (arith, n, c.if-count-n.false, c.if-first-n.false);
     }
 
 pub returns : goal.returns
 returns c =
-    let x = looked_first c.args.t c.requires c.args.id c.look_up.result c.look_up.ensures c.in-Some.is in
+    let x = c.in_ok-i.ensures.place in
     let r = read_answered c.args.t c.args.id c.args.first c.args.out.now c.args.disk.now c.if-disk-t.false
-    c.if-id-eq0.false (file_of (entry_at c.args.t c.in-Some.i))
-    (looked_found c.args.t c.requires c.args.id c.in-Some.i x)
+    c.in_ok-i.ensures.least (file_of (entry_at c.args.t c.in_ok-i.i))
+    (looked_found c.args.t c.requires c.args.id c.in_ok-i.i x)
     c.if-out-eq0.false c.if-out-ne0.false
     (omega (arith, c.blocks_of-n.ensures.equal, c.if-count-n.false, c.if-first-n.false)) in
     record {

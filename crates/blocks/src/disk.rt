@@ -65,7 +65,8 @@ pub fn copy_merge(disk: &mut [u8], p: Pair) -> u32
     copied + made
 }
 
-// Stores block `from` of `source` in block `to` of `target`.
+// Stores block `from` of `source` in block `to` of `target`. This and `copy_block` are two functions: one lends two
+// buffers, the other moves bytes within one.
 pub fn store_block(target: &mut [u8], to: usize, source: &[u8], from: usize)
     requires has_block { HasBlock (length target.old) to }
     requires has_block_2 { HasBlock (length source.now) from }

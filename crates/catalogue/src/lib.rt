@@ -21,7 +21,8 @@ impl Version {
     // The bytes of a field for a version, a number of files or an id.
     pub const SHORT_FIELD: usize = 2;
 
-    // The version that format makes in a buffer of `n` bytes, and version 1 where no version has this length.
+    // The version that format makes in a buffer of `n` bytes, and version 1 where no version has this length. That is no
+    // Option, since `version_for` is so, which the manager's conditions cite; who calls it compares the length.
     pub fn of_length(n: usize) -> Version
         ensures { result ≡ version_for n }
     {

@@ -22,7 +22,8 @@ pub fn gap_before(whole: Section, at: u32, s: Section) -> Gap
 }
 
 impl Pair {
-    // How many blocks the merge of the two copies: those of the lower one's buddy that lie between the free pieces.
+    // How many blocks the merge of the two copies: those of the lower one's buddy that lie between the free pieces. The
+    // copies themselves are made by `copy_merge` (blocks): one function of both would be passed the disk and the count.
     pub fn copies(self) -> u32
         requires { PairFits self }
         ensures { result ≡ length (pair_copies self) }

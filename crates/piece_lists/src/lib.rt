@@ -19,7 +19,8 @@ mod few;
 mod places;
 mod sorting;
 
-// Few pieces: no more than a file of a sound layout has, or its free space.
+// Few pieces: no more than a file of a sound layout has, or its free space. A count beside an array, since memory is
+// fixed and lists are copied: the kit's vectors of a fixed capacity are no `Copy`.
 #[derive(Clone, Copy)]
 pub struct Pieces {
     pub count: usize,

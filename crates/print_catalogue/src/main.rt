@@ -47,7 +47,8 @@ fn print_input(input: &[u8], out: &mut [u8]) -> usize
     printing::print_table(table, out)
 }
 
-// Reads until the room is full or the input ends, and gives how many bytes it put at the start of the room.
+// Reads until the room is full or the input ends, and gives how many bytes it put at the start of the room. What the loop
+// counts is no index: so many bytes the reader has given.
 fn read_full<R: Read>(reader: &mut R, room: &mut [u8]) -> io::Result<usize>
     ensures within { IfOk result (λ n. n ≤ length room.new) }
     ensures bytes { IfOk result (λ n. Consumes (R.remaining reader.old) (R.remaining reader.new) (take n room.new)) }

@@ -27,7 +27,8 @@ pub struct Entry {
     pub pieces: Pieces,
 }
 
-// The disk's blocks, the files by rising id, and the free pieces.
+// The disk's blocks, the files by rising id, and the free pieces. The files are counted beside their array, as pieces
+// are.
 #[derive(Clone, Copy)]
 pub struct Table {
     pub blocks: u32,

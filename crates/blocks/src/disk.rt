@@ -1,6 +1,6 @@
 // Blocks and pages: copies within the disk, and pages written to the blocks of pieces.
 //
-// Every function works on the caller's bytes in place. A block or a page is moved as a whole.
+// Every function works on the caller's bytes in place. A block, and the pages of a run, are moved as a whole.
 ghost use Rattle.std.specs.Prelude.{◌≡◌, ◌*◌, ◌≤◌, length, drop};
 ghost use Rattle.section.specs.Limits.{block_size, greatest_disk};
 ghost use Rattle.layout.specs.Layout.{block_run, blocks_of};

@@ -19,8 +19,7 @@ pub struct Choice {
     pub id: u32,
 }
 
-// Files by these numbers, the fewest first, equal numbers by lower id. It is no list of pieces for another kind of item,
-// since no struct here has an array of a type parameter.
+// Files by these numbers, the fewest first, equal numbers by lower id.
 #[derive(Clone, Copy)]
 pub struct Choices {
     pub count: usize,

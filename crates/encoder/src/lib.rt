@@ -1,4 +1,4 @@
-// The bytes of a catalogue, from a table and back.
+// The bytes of a catalogue, from a table.
 #![tactic(auto)]
 
 mod storing;

@@ -1,4 +1,4 @@
-// The calls that change a catalogue: it is loaded once, and stored once if its table is another one then.
+// The calls that change a catalogue: it is loaded once, and stored once unless the call is refused.
 ghost use Rattle.std.specs.Prelude.{◌≡◌};
 ghost use Rattle.manager.specs.Outcomes.{add_outcome, remove_outcome, replace_outcome};
 ghost use Rattle.answers.specs.Answers.{reply_of};

@@ -18,8 +18,7 @@ pub use allocating::allocate;
 pub use gaps::gap_before;
 pub use taking::take_piece;
 
-// The free pieces by rising first block. Between a release and its merges there are more than a sound layout has, and so
-// they are no `Pieces`, and no type of both sizes: their methods stand here, and an `impl` only in the crate of its type.
+// The free pieces by rising first block. Between a release and its merges there are more than a sound layout has.
 #[derive(Clone, Copy)]
 pub struct Free {
     pub count: usize,

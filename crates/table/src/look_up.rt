@@ -9,8 +9,8 @@ use crate::files::place_of;
 use crate::{LookedUp, Table};
 
 impl Table {
-    // The file of an id. Ids are read from the lowest up, to the one sought or the first larger one, and counted as
-    // they are read.
+    // The file of an id. Ids are read from the lowest up, to the one sought or the first larger one: so many as stand up
+    // to there, with that one.
     pub fn look_up(self, id: u32) -> LookedUp
         requires count_le_most_files { self.count ≤ most_files }
         requires by_rising_id { ByRisingId (files_of self) }

@@ -39,10 +39,10 @@ fn print_input(input: &[u8], out: &mut [u8]) -> usize
 {
     let version = Version::of_length(input.len());
     if input.len() != version.bytes {
-        return printing::print_refusal(Refusal::CatalogueLength, out);
+        return printing::print_refusal(Refusal::CatalogueLength.number(), out);
     }
     let Some(table) = decoder::load(input, version) else {
-        return printing::print_refusal(Refusal::NotSound, out);
+        return printing::print_refusal(Refusal::NotSound.number(), out);
     };
     printing::print_table(table, out)
 }

@@ -7,12 +7,10 @@ ghost use Rattle.std.specs.Prelude.{◌≤◌, length};
 ghost use Rattle.section.specs.Limits.{height_count};
 ghost use Rattle.layout.specs.Sound.{Sound};
 ghost use Rattle.manager.specs.Printing.{layout_text, refusal_text};
-ghost use Rattle.answers.specs.Answers.{number_of};
 ghost use Rattle.table.specs.Tables.{Sized, layout_of};
 ghost use Rattle.texts.specs.Lines.{Prints};
 ghost use Rattle.printing.specs.Texts.{text_room, refusal_room};
 
-use answers::Refusal;
 use table::Table;
 
 mod files;
@@ -31,12 +29,12 @@ pub fn print_table(t: Table, out: &mut [u8]) -> usize
     pairs::write_pairs(out, c, t.free.as_slice())
 }
 
-// Writes the text of a refusal.
-pub fn print_refusal(refusal: Refusal, out: &mut [u8]) -> usize
+// Writes the text of a refusal, under any number: a refusal by name would ask more of who calls it.
+pub fn print_refusal(number: u32, out: &mut [u8]) -> usize
     requires { refusal_room ≤ length out.old }
-    ensures { Prints (refusal_text (number_of refusal)) out.new result }
+    ensures { Prints (refusal_text number) out.new result }
 {
     let a = texts::write_bytes(out, 0, b"refused ");
-    let b = texts::write_decimal(out, a, refusal.number());
+    let b = texts::write_decimal(out, a, number);
     texts::write_bytes(out, b, b"\n")
 }

@@ -79,16 +79,27 @@ no_length_no_power n h e l p =
     let z : ◌≡◌ {A = ℕ} 0 1 = cc (e, height-of-length h l, ap height_of p) in
     omega arith
 
-none_up_to : (m n : ℕ) → ((h : ℕ) → h ≤ m → n ≡ 2 ^ h → ⊥) → height_up_to m n ≡ None
-none_up_to zero n p = simp (ne_eqb n 1 (p 0 (omega arith)))
-none_up_to (suc m) n p =
-    simp (ne_eqb n (2 ^ suc m) (p (suc m) (omega arith))) (none_up_to m n (λ h l. p h (omega arith)))
+-- n is none of the lengths up to 2 ^ m: what a `match` on them knows in its last arm
+abbrev pub NoneUpTo : ℕ → ℕ → Type 0
+NoneUpTo zero n = Unit {0} × (n ≡ 1 → ⊥)
+NoneUpTo (suc m) n = NoneUpTo m n × (n ≡ 2 ^ suc m → ⊥)
+
+none_up_to : (m n : ℕ) → NoneUpTo m n → height_up_to m n ≡ None
+none_up_to zero n r = simp (ne_eqb n 1 r.1)
+none_up_to (suc m) n r = simp (ne_eqb n (2 ^ suc m) r.1) (none_up_to m n r.0)
+
+pub no_length_of_match : (n : ℕ) → NoneUpTo greatest_height n → height_of n ≡ None
+unfolding height_of
+no_length_of_match n r = none_up_to greatest_height n r
+
+no_power_none : (m n : ℕ) → ((h : ℕ) → h ≤ m → n ≡ 2 ^ h → ⊥) → NoneUpTo m n
+no_power_none zero n p = (tt, p 0 (omega arith))
+no_power_none (suc m) n p = (no_power_none m n (λ h l. p h (omega arith)), p (suc m) (omega arith))
 
 -- and what is none of the powers is no length
 pub no_length_of_no_power : (n : ℕ) → ((h : ℕ) → h ≤ greatest_height → n ≡ 2 ^ h → ⊥)
     → height_of n ≡ None
-unfolding height_of
-no_length_of_no_power n p = none_up_to greatest_height n p
+no_length_of_no_power n p = no_length_of_match n (no_power_none greatest_height n p)
 
 -- more than the greatest disk is no length
 pub no_length_above : (n : ℕ) → greatest_disk < n → height_of n ≡ None

@@ -35,13 +35,29 @@ impl Height {
     pub fn of_length(n: u32) -> Option<Height>
         ensures { result ≡ height_of n }
     {
-        let height = Height {
-            value: n.trailing_zeros(),
-        };
-        if height.value <= Height::GREATEST && height.length() == n {
-            Some(height)
-        } else {
-            None
+        match n {
+            1 => Some(Height { value: 0 }),
+            2 => Some(Height { value: 1 }),
+            4 => Some(Height { value: 2 }),
+            8 => Some(Height { value: 3 }),
+            16 => Some(Height { value: 4 }),
+            32 => Some(Height { value: 5 }),
+            64 => Some(Height { value: 6 }),
+            128 => Some(Height { value: 7 }),
+            256 => Some(Height { value: 8 }),
+            512 => Some(Height { value: 9 }),
+            1024 => Some(Height { value: 10 }),
+            2048 => Some(Height { value: 11 }),
+            4096 => Some(Height { value: 12 }),
+            8192 => Some(Height { value: 13 }),
+            16384 => Some(Height { value: 14 }),
+            32768 => Some(Height { value: 15 }),
+            65536 => Some(Height { value: 16 }),
+            131072 => Some(Height { value: 17 }),
+            262144 => Some(Height { value: 18 }),
+            524288 => Some(Height { value: 19 }),
+            1048576 => Some(Height { value: 20 }),
+            _ => None,
         }
     }
 }

@@ -27,18 +27,20 @@ fn group_shares(
     found
 }
 
-// Whether some two of the first `count` pieces share a block. Both loops end at the first group with an overlap.
+// Whether some two of the first `count` pieces share a block. Both loops are left at the first group with an overlap.
 pub fn any_shared(firsts: &[u32; Notes::PLACES], masks: &[u32; Notes::PLACES], count: usize) -> bool
     requires { count ≤ most_pieces }
     ensures { (l : List Section) → length l ≡ count → Noted l firsts.now masks.now
         → Ends l → result ≡ not (none_shared l) }
 {
-    for i in 0..count {
+    let mut found = false;
+    'pairs: for i in 0..count {
         for j in (i + 1..count).step_by(Notes::GROUP) {
             if group_shares(firsts, masks, j, firsts[i], masks[i]) {
-                return true;
+                found = true;
+                break 'pairs;
             }
         }
     }
-    false
+    found
 }

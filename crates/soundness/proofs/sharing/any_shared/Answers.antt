@@ -1,7 +1,7 @@
 -- `soundness::sharing::any_shared` meets its contract: every two pieces before `i`, and `i` up to `j`. Assumes
 -- nothing.
 use mathlib.Core.Bool.{not}
-use mathlib.Core.Path.{◌∙◌, ap, sym}
+use mathlib.Core.Path.{◌∙◌, ap, refl, sym}
 use Prim.Native.Nat.{◌+◌}
 use native.Mathlib.Omega.{arith}
 use lib.ListN.{get_or}
@@ -12,49 +12,53 @@ use Rattle.soundness.proofs.sharing.any_shared.Goals as goal
 use Rattle.soundness.proofs.sharing.any_shared.Goals.{else-loop-j-test}
 use Rattle.soundness.proofs.sharing.any_shared.Goals.{then-loop-j-test+else-group_shares+else-count-j-gt16}
 
-pub loop-i-init : goal.loop-i-init
-loop-i-init c = λ l _. rows_none l c.args.count far apart
+pub pairs-init : goal.pairs-init
+pairs-init c = (refl, λ l _. rows_none l c.args.count far apart)
 
 pub loop-j-init : goal.loop-j-init
 loop-j-init c =
-    let w = c.loop-i in
-    (omega arith, λ l h. (w.invariant l h, row_start l c.args.count far apart w.i))
+    let w = c.pairs in
+    (w.invariant.0, omega arith, λ l h. (w.invariant.1 l h, row_start l c.args.count far apart w.i))
 
 pub loop-j-preserved : goal.loop-j-preserved
 loop-j-preserved c =
-    let i = c.loop-i.i in
-    let w = c.loop-j in (
+    let i = c.pairs.i in
+    let w = c.loop-j in
+    let v = w.invariant in (
+      v.0,
       omega arith,
       λ l h. (
-        (w.invariant.1 l h).0,
-        row_group l i w.j group_size (w.invariant.1 l h).1
+        (v.2 l h).0,
+        row_group l i w.j group_size (v.2 l h).1
             (sym (c.group_shares.ensures l (get_or l i far) h (h.spans i (omega arith))) ∙ c.if-group_shares.false),
       ),
     )
 
-pub loop-i-preserved : goal.loop-i-preserved
-loop-i-preserved c =
+pub pairs-preserved : goal.pairs-preserved
+pairs-preserved c =
     let n = c.args.count in
-    let i = c.loop-i.i in
+    let i = c.pairs.i in
     let j = c.loop-j.j in
     let v = c.loop-j.invariant in
     elim c.loop-j-test.branch [
-      | else-loop-j-test w ↦ λ l h. rows_more l n far apart i j w.loop-j-test.false (v.1 l h).0 (v.1 l h).1
-      | then-loop-j-test+else-group_shares+else-count-j-gt16 w ↦
-          λ l h. rows_more l n far apart i (j + group_size) (omega arith) (v.1 l h).0
-          (row_group l i j group_size (v.1 l h).1
-          (sym (w.group_shares.ensures l (get_or l i far) h (h.spans i (omega arith))) ∙ w.if-group_shares.false))
+      | else-loop-j-test w ↦ (v.0, λ l h. rows_more l n far apart i j w.loop-j-test.false (v.2 l h).0 (v.2 l h).1)
+      | then-loop-j-test+else-group_shares+else-count-j-gt16 w ↦ (
+        v.0,
+        λ l h. rows_more l n far apart i (j + group_size) (omega arith) (v.2 l h).0
+            (row_group l i j group_size (v.2 l h).1
+            (sym (w.group_shares.ensures l (get_or l i far) h (h.spans i (omega arith))) ∙ w.if-group_shares.false)),
+      )
     ]
 
-pub returns : goal.returns
-returns c l e h ends =
-    let w = c.loop-i in
-    sym (ap not (rows_through l _ e w.i c.loop-i-test.false (w.invariant l h)))
+pub returns-after-pairs : goal.returns-after-pairs
+returns-after-pairs c l e h ends =
+    let w = c.pairs in
+    w.invariant.0 ∙ sym (ap not (rows_through l _ e w.i c.pairs-test.false (w.invariant.1 l h)))
 
 pub returns-then-group_shares : goal.returns-then-group_shares
 returns-then-group_shares c l e h ends =
-    let i = c.loop-i.i in
+    let i = c.pairs.i in
     let w = c.loop-j in
     sym (ap not
-    (group_fails l _ e ends i w.j group_size w.invariant.0 c.loop-i-test.true
+    (group_fails l _ e ends i w.j group_size w.invariant.1 c.pairs-test.true
     (sym (c.group_shares.ensures l (get_or l i far) h (h.spans i (omega arith))) ∙ c.if-group_shares.true)))

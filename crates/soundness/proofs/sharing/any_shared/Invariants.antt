@@ -1,6 +1,8 @@
 -- `soundness::sharing::any_shared` meets its contract: every two pieces before `i`, and `i` up to `j`. Assumes
 -- nothing.
+use mathlib.Core.Bool.{false}
 use mathlib.Core.List.{List}
+use mathlib.Core.Path.{◌≡◌}
 use Prim.Native.Nat.{◌<◌}
 use Rattle.section.specs.declared.Section.{Section}
 use Rattle.soundness.specs.Sharing.{Noted, far}
@@ -10,8 +12,8 @@ use Rattle.soundness.proofs.sharing.any_shared.Given as goal
 
 abbrev pub invariant-loop-j : goal.invariant-loop-j
 invariant-loop-j l =
-    (l.i < l.j)
+    (l.found ≡ false) × (l.i < l.j)
     × ((m : List Section) → Noted m l.firsts l.masks → Rows m l.count far apart l.i × Row m far apart l.i l.j)
 
-abbrev pub invariant-loop-i : goal.invariant-loop-i
-invariant-loop-i l = (m : List Section) → Noted m l.firsts l.masks → Rows m l.count far apart l.i
+abbrev pub invariant-pairs : goal.invariant-pairs
+invariant-pairs l = (l.found ≡ false) × ((m : List Section) → Noted m l.firsts l.masks → Rows m l.count far apart l.i)

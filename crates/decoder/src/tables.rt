@@ -1,6 +1,7 @@
 // The whole catalogue, read into a table.
 ghost use Rattle.std.specs.Prelude.{◌≡◌, length};
 ghost use Rattle.catalogue.specs.Version.{Served};
+ghost use Rattle.soundness.specs.Counts.{Exact};
 ghost use Rattle.decoder.specs.Loading.{HeaderAt, TableAt};
 
 use crate::TableRead;
@@ -12,6 +13,18 @@ use free_pieces::Free;
 use piece_lists::Pieces;
 use section::Section;
 use table::Table;
+
+// An empty table.
+pub fn no_table() -> Table
+    ensures { Exact result × (result.free.count ≡ 0) }
+{
+    Table {
+        blocks: 0,
+        count: 0,
+        files: [no_entry(0); Section::MOST_FILES],
+        free: Free::none(),
+    }
+}
 
 // The table after the header: the entries, each read from its own part of the catalogue, and the free pairs, which are
 // few in a sound layout.

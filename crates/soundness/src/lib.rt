@@ -15,6 +15,7 @@ pub use order::in_order;
 
 // What is noted of a table's pieces: the first block of each in one array and its mask in another. They are two arrays
 // since a group of either is read at once.
+#[derive(Clone, Copy)]
 pub struct Notes;
 
 impl Notes {

@@ -1,6 +1,6 @@
 -- The text for an input, by its length and by what was loaded from it; one byte more than a catalogue has is
 -- enough of it. Assumes nothing.
-use Rattle.std.proofs.Common.{Option, Some}
+use Rattle.std.proofs.Common.{None, Option, Some}
 use mathlib.Core.Bool.{false, true}
 use mathlib.Core.List.{List}
 use mathlib.Core.Logic.{inl, inr}
@@ -70,6 +70,12 @@ module _ (input : List ℕ) (v : Version) (same : v ≡ version_of input) where
       → printed input ≡ reading_text (reading_of l)
   text_loaded l rd lc =
       ap (λ u. printed_in u input) (sym same) ∙ (text_read v input lc ∙ ap reading_text (sym rd))
+
+  -- which is that of refusal 3 where none was loaded
+  pub text_unsound : reading_of None ≡ read_catalogue v input → length input ≡ v.bytes
+      → printed input ≡ refusal_text 3
+  unfolding reading_of
+  text_unsound = text_loaded None
 
 -- an input of a length that is no version's
 pub text_other : (input : List ℕ) (v : Version) → v ≡ version_of input → (length input ≡ v.bytes → ⊥)

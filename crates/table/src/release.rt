@@ -18,7 +18,7 @@ pub fn free_with(free: Free, e: Entry) -> Free
 {
     let mut all = free;
     for piece in e.pieces.as_slice().iter().rev() {
-        all = all.with(*piece);
+        all.put(*piece);
     }
     all
 }

@@ -1,12 +1,12 @@
 -- The first of a list that passes a test, by its place: it is what taking the first takes. Assumes nothing.
 use Rattle.std.proofs.Common.{◌≡◌, ◌+◌, ◌<◌, ◌∙◌, ap, arith, sym, subst, suc, zero, ℕ, Bool, true, false, List}
-use Rattle.std.proofs.Common.{[], ◌∷◌, drop, get_or, length}
+use Rattle.std.proofs.Common.{[], ◌∷◌, ◌≤◌, drop, get_or, length, refl}
 use Rattle.section.specs.Sections.{section}
 use Rattle.section.specs.declared.Section.{Section}
 use Rattle.layout.proofs.Taking.{take_first_behind, take_first_here, take_first-none}
 use Rattle.layout.specs.Adding.{keeping, nothing, take_first, taken}
 use Rattle.layout.specs.Lists.{done}
-use Rattle.piece_lists.specs.Places.{without_at}
+use Rattle.piece_lists.specs.Places.{first_place, without_at}
 
 -- the first of l that passes stands at place i
 pub record FirstAt (q : Section → Bool) (l : List Section) (i : ℕ) : Type 0 where
@@ -68,3 +68,28 @@ module _ (q : Section → Bool) where
       let y : suc i + 1 ≡ suc (i + 1) = omega arith in
       take_first_behind q a (without_at i l) (f.before 0 (omega arith))
       ∙ ap (keeping a) (none-next l i (behind a l i f) (e ∙ ap (λ n. take_first q (drop n (a ∷ l))) y))
+
+  -- where one passes, the first stands at the first place
+  pub first_place-at : (l : List Section) → first_place q l < length l → FirstAt q l (first_place q l)
+  unfolding first_place
+  first_place-at [] p = absurd (omega arith)
+  first_place-at (a ∷ l) p = go (q a) refl p (first_place-at l)
+    where
+      after : Bool → ℕ
+      after t = elim t as (λ _. ℕ) [ true ↦ 0 | false ↦ suc (first_place q l) ]
+
+      go : (t : Bool) → q a ≡ t → after t < suc (length l)
+          → (first_place q l < length l → FirstAt q l (first_place q l)) → FirstAt q (a ∷ l) (after t)
+      go true e p ih = record { below = omega arith; here = e; before = λ k lt. absurd (omega arith) }
+      go false e p ih = ahead a l (first_place q l) e (ih (omega arith))
+
+  -- and where none does, nothing is taken
+  pub first_place-none : (l : List Section) → length l ≤ first_place q l → take_first q l ≡ nothing
+  unfolding first_place
+  first_place-none [] p = take_none [] (λ k lt. absurd (omega arith))
+  first_place-none (a ∷ l) p = go (q a) refl p (first_place-none l)
+    where
+      go : (t : Bool) → q a ≡ t → suc (length l) ≤ elim t as (λ _. ℕ) [ true ↦ 0 | false ↦ suc (first_place q l) ]
+          → (length l ≤ first_place q l → take_first q l ≡ nothing) → take_first q (a ∷ l) ≡ nothing
+      go true e p ih = absurd (omega arith)
+      go false e p ih = take_first_behind q a l e ∙ ap (keeping a) (ih (omega arith))

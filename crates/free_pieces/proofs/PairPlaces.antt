@@ -1,7 +1,8 @@
 -- Two pieces taken at their places are the pair to merge: where no two are buddies, the lowest of a height and the
 -- lowest of it behind that. Assumes nothing.
-use Rattle.std.proofs.Common.{◌≡◌, ◌+◌, ◌<◌, ◌∙◌, ap, ap₂, arith, refl, sym, subst, suc, zero, ℕ, List, []}
+use Rattle.std.proofs.Common.{◌≡◌, ◌+◌, ◌-◌, ◌<◌, ◌∙◌, ap, ap₂, arith, refl, sym, subst, suc, zero, ℕ, List, []}
 use Rattle.std.proofs.Common.{◌∷◌, drop, get_or, length, Option, Some, None}
+use native.Mathlib.Decide.{dec_lt}
 use Rattle.std.specs.List.{position}
 use Rattle.std.specs.Prelude.{option_and_then, option_map}
 use Rattle.section.specs.Sections.{section}
@@ -16,8 +17,8 @@ use Rattle.layout.specs.Removing.{buddy_pair, fewer, lowest_two, merge_pair, pai
 use Rattle.piece.proofs.Seen.{seen-drop}
 use Rattle.piece.specs.Packed.{section_in, seen}
 use Rattle.piece.specs.declared.Piece.{Piece}
-use Rattle.piece_lists.specs.Places.{without_at}
-use Rattle.free_pieces.proofs.FirstTaken.{FirstAt, first-next, none-next, take_at}
+use Rattle.piece_lists.specs.Places.{first_place, without_at}
+use Rattle.free_pieces.proofs.FirstTaken.{FirstAt, first-next, first_place-at, first_place-none, none-next, take_at}
 use Rattle.free_pieces.proofs.FoundPieces.{first-found, nothing-found}
 use Rattle.free_pieces.specs.Free.{free_of, pair_of}
 use Rattle.free_pieces.specs.Pairs.{PairsAt}
@@ -49,11 +50,24 @@ module _ (h : ℕ) where
   count_nothing l e =
       count_none h (nothing_height (subst (TakesOf (has_height h) l) (sym e) (take_first_is (has_height h) l)))
 
+  -- a height that is counted has a place
+  pub place_there : (l : List Section) → 0 < count_of h l → first_place (has_height h) l < length l
+  place_there l some = go (dec_lt (first_place (has_height h) l) (length l))
+    where
+      go : Dec (first_place (has_height h) l < length l) → first_place (has_height h) l < length l
+      go (yes p) = p
+      go (no n) =
+          absurd (omega (
+            arith,
+            some,
+            count_nothing l (sym (first_place-none (has_height h) l (omega (arith, n)))),
+          ))
+
   -- the two lowest, where no two are buddies
-  lowest-places : (free : List Section) → buddy_pair h free ≡ fewer → (i j : ℕ) → FirstAt (has_height h) free i
+  lowest_at-places : (free : List Section) → buddy_pair h free ≡ fewer → (i j : ℕ) → FirstAt (has_height h) free i
       → FirstAt (has_height h) (drop (i + 1) free) j → PairPlaces h free i (i + j)
   unfolding lowest_two
-  lowest-places free none i j f g =
+  lowest_at-places free none i j f g =
       let k = first-next (has_height h) free i j f g in
       record {
         lower = f.below;
@@ -114,7 +128,7 @@ module _ (h : ℕ) where
         second i f (Some j) q e =
             let s : ◌≡◌ {A = ℕ × ℕ} (i, i + j) r = cc in
             subst (λ (z : ℕ × ℕ). PairPlaces h (seen l) z.0 z.1) s
-            (lowest-places (seen l) none i j f
+            (lowest_at-places (seen l) none i j f
             (subst (λ k. FirstAt (has_height h) k j) (sym (behind i))
             (first-found (has_height h) (drop (i + 1) l) j q)))
         second i f None q e = cc
@@ -124,3 +138,38 @@ module _ (h : ℕ) where
             → PairPlaces h (seen l) r.0 r.1
         go (Some i) q e = second i (first-found (has_height h) l i q) (place (drop (i + 1) l)) refl e
         go None q e = cc
+
+module _ (h : ℕ) (free : List Section) (none : buddy_pair h free ≡ fewer) (two : 1 < count_of h free) where
+  abbrev low : ℕ
+  low = first_place (has_height h) free
+
+  pub low_there : low < length free
+  low_there = place_there h free (omega (arith, two))
+
+  -- the next one stands behind the lowest
+  next_there : (i : ℕ) → FirstAt (has_height h) free i
+      → first_place (has_height h) (drop (i + 1) free) < length (drop (i + 1) free)
+  next_there i f = go (dec_lt (first_place (has_height h) (drop (i + 1) free)) (length (drop (i + 1) free)))
+    where
+      go : Dec (first_place (has_height h) (drop (i + 1) free) < length (drop (i + 1) free))
+          → first_place (has_height h) (drop (i + 1) free) < length (drop (i + 1) free)
+      go (yes p) = p
+      go (no n) =
+          let rest = first_place-none (has_height h) (drop (i + 1) free) (omega (arith, n)) in
+          absurd (omega (
+            arith,
+            two,
+            one_left h free i f,
+            count_nothing h (without_at i free) (sym (none-next (has_height h) free i f (sym rest))),
+          ))
+
+  -- the lowest of the height, and the lowest behind it
+  pub lowest-places : (i j : ℕ) → i ≡ low → j ≡ i + 1 + first_place (has_height h) (drop (i + 1) free)
+      → PairPlaces h free i (j - 1)
+  lowest-places i j e f =
+      let q = has_height h in
+      let k = first_place q (drop (i + 1) free) in
+      let at : FirstAt q free i = subst (FirstAt q free) (sym e) (first_place-at q free low_there) in
+      let z : j - 1 ≡ i + k = omega (arith, f) in
+      subst (PairPlaces h free i) (sym z)
+      (lowest_at-places h free none i k at (first_place-at q (drop (i + 1) free) (next_there i at)))

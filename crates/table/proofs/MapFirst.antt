@@ -1,8 +1,6 @@
 -- A list whose first i items have been replaced by g of them: what a loop that maps an array in place has after i
 -- turns. Assumes nothing.
-use Rattle.std.proofs.lemmas.List.{drop_all, drop_more, get_or_at, get_or_default, length-drop, length-take}
-use Rattle.std.proofs.lemmas.List.{take_all, take_at}
-use Rattle.std.proofs.lemmas.List.Edits.{map_over_more}
+use Rattle.std.proofs.lemmas.List.{drop_all, length-drop, length-take, take_all}
 use Rattle.std.specs.List.{position}
 use Rattle.std.specs.Option.{unwrap_or}
 use Rattle.std.specs.Prelude.{None}
@@ -17,6 +15,7 @@ use mathlib.Core.Bool.{Bool, cond, false, true}
 use mathlib.Core.List.{List, [], ◌++◌, ◌∷◌, append-nil, map}
 use mathlib.Core.Path.{◌∙◌, ◌≡◌, ap, refl, sym, ap₂, subst}
 use Prim.Native.Nat.{◌+◌, ◌-◌, ◌<◌, ◌≤◌, suc, zero, ℕ, ◌*◌, ◌/◌, ◌^◌}
+use native.Mathlib.Numerals.{add-one}
 use native.Mathlib.Omega.{arith}
 use lib.ListN.{drop, get_or, length, length-append, length-map, set, take}
 use Rattle.layout.specs.Lists.{Each, done, more}
@@ -34,35 +33,40 @@ module _ {A : Type 0} (g : A → A) where
       ∙ omega (arith, length-map (take i l) g, length-take i l, length-drop i l)
 
   -- the item that is next
-  map_first-at : (l : List A) (i : ℕ) (d : A) → i < length l → get_or (map_first g i l) i d ≡ get_or l i d
-  map_first-at l i d lt =
-      let long : length (map g (take i l)) ≡ i = length-map (take i l) g ∙ omega (arith, length-take i l) in
-      ap (λ m. get_or (map g (take i l) ++ m) i d) (drop_more l i d lt)
-      ∙ get_or_at (map g (take i l)) (get_or l i d) (drop (i + 1) l) d i long
+  pub map_first-at : (l : List A) (i : ℕ) (d : A) → get_or (map_first g i l) i d ≡ get_or l i d
+  map_first-at l zero d = refl
+  map_first-at [] (suc i) d = refl
+  map_first-at (x ∷ l) (suc i) d = map_first-at l i d
 
   -- it has what each item had
   pub map_first-next : {P : A → Type 0} (l m : List A) (i : ℕ) (d : A) → m ≡ map_first g i l → Each P l → i < length l
       → P (get_or m i d)
   map_first-next {P = P} l m i d e a lt =
-      subst P (sym (ap (λ x. get_or x i d) e ∙ map_first-at l i d lt)) (each_get {P = P} i d a lt)
+      subst P (sym (ap (λ x. get_or x i d) e ∙ map_first-at l i d)) (each_get {P = P} i d a lt)
+
+  map_first-suc : (l : List A) (i : ℕ) (d : A) → set (map_first g i l) i (g (get_or l i d)) ≡ map_first g (suc i) l
+  map_first-suc [] zero d = refl
+  map_first-suc [] (suc i) d = refl
+  map_first-suc (x ∷ l) zero d = refl
+  map_first-suc (x ∷ l) (suc i) d = ap (λ m. g x ∷ m) (map_first-suc l i d)
 
   -- after one more turn
-  pub map_first_more : (l m : List A) (i : ℕ) (d y : A) → i < length l → m ≡ map_first g i l → y ≡ g (get_or m i d)
+  pub map_first_more : (l m : List A) (i : ℕ) (d y : A) → m ≡ map_first g i l → y ≡ g (get_or m i d)
       → set m i y ≡ map_first g (i + 1) l
-  map_first_more l m i d y lt p q =
-      let x : A = get_or m i d in
-      let long : length m ≡ length l = ap length p ∙ length-map_first i l in
-      ap (λ a. set m i a) q ∙ map_over_more g l m i x lt p (get_or_default m i d x (omega arith))
+  map_first_more l m i d y p q =
+      ap (λ a. set m i a) q ∙ ap (λ a. set a i (g (get_or a i d))) p
+      ∙ ap (λ a. set (map_first g i l) i (g a)) (map_first-at l i d)
+      ∙ map_first-suc l i d ∙ rw add-one refl
 
   -- all of them
   pub map_first_all : (n : ℕ) (l : List A) → length l ≤ n → map_first g n l ≡ map g l
   map_first_all n l h = ap₂ (λ a b. map g a ++ b) (take_all n l h) (drop_all n l h) ∙ append-nil (map g l)
 
   -- the first n of them
-  pub take-map_first : (n : ℕ) (l : List A) → n ≤ length l → take n (map_first g n l) ≡ map g (take n l)
-  take-map_first n l h =
-      let long : length (map g (take n l)) ≡ n = length-map (take n l) g ∙ omega (arith, length-take n l) in
-      take_at (map g (take n l)) (drop n l) n long
+  pub take-map_first : (n : ℕ) (l : List A) → take n (map_first g n l) ≡ map g (take n l)
+  take-map_first zero l = refl
+  take-map_first (suc n) [] = refl
+  take-map_first (suc n) (x ∷ l) = ap (λ m. g x ∷ m) (take-map_first n l)
 
   -- what g keeps, a turn keeps
   pub each_map_first : {P : A → Type 0} (n : ℕ) → ((a : A) → P a → P (g a)) → {l : List A} → Each P l

@@ -49,7 +49,7 @@ loop-piece-preserved c =
     let new : c.of.result ≡ moved_piece c.args.from c.args.to (get_or o.piece-items o.piece-index no_piece) =
     c.of.ensures.word
     ∙ ap piece_of (c.moved.ensures ∙ ap (moved_into c.args.from c.args.to) c.section.ensures) in
-    map_first_more _ _ _ _ no_piece _ c.loop-piece-test.true o.invariant new
+    map_first_more _ _ _ _ no_piece _ o.invariant new
 
 pub returns : goal.returns
 returns c =

@@ -40,11 +40,11 @@ loop-entry-preserved c =
     let Next : List Entry → Type 0 = λ l. l ≡ map_first g (o.entry-index + 1) c.args.files.now in
     elim c.if-is_some.branch as (λ _. Next c.if-is_some.entry-items) [
       | then-is_some w ↦ subst Next (sym w.entry-items-is)
-          (map_first_more g _ _ _ no_entry _ c.loop-entry-test.true o.invariant w.moved.ensures)
+          (map_first_more g _ _ _ no_entry _ o.invariant w.moved.ensures)
       | else-is_some w ↦
           let none = none-not_some _ (sym c.is_some.ensures ∙ w.if-is_some.false) in
           subst Next (sym w.entry-items-is)
-          (map_first_more g _ _ _ no_entry _ c.loop-entry-test.true o.invariant
+          (map_first_more g _ _ _ no_entry _ o.invariant
           (sym (file_stays c.args.from c.args.to _ (sym c.place_inside.ensures ∙ none))))
     ]
 

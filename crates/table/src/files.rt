@@ -11,7 +11,7 @@ use free_pieces::Free;
 use piece_lists::insert_at;
 
 // Where the file of an id stands, or is to stand: at the first whose id is not lower.
-pub(crate) fn place_of(files: &[Entry], id: u32) -> Option<usize>
+fn place_of(files: &[Entry], id: u32) -> Option<usize>
     ensures { result ≡ position (λ x. nat_le id x.id) files.now }
 {
     files.iter().position(|x| id <= x.id)

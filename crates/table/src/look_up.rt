@@ -5,28 +5,29 @@ ghost use Rattle.layout.specs.LookingUp.{ByRisingId};
 ghost use Rattle.table.specs.Tables.{files_of};
 ghost use Rattle.table.specs.LookUps.{LooksUp};
 
-use crate::files::place_of;
 use crate::{LookedUp, Table};
 
 impl Table {
-    // The file of an id. Ids are read from the lowest up, to the one sought or the first larger one: so many as stand up
-    // to there, with that one.
+    // The file of an id. Ids are read from the lowest up, to the one sought or the first larger one, and counted as
+    // they are read.
     pub fn look_up(self, id: u32) -> LookedUp
         requires count_le_most_files { self.count ≤ most_files }
         requires by_rising_id { ByRisingId (files_of self) }
         ensures { LooksUp self id result }
     {
-        let Some(j) = place_of(&self.files[..self.count], id) else {
-            return LookedUp {
-                file: None,
-                read: self.count,
-            };
-        };
-        let file = if self.files[j].id == id {
-            Some(j)
-        } else {
-            None
-        };
-        LookedUp { file, read: j + 1 }
+        let mut read = 0;
+        for (j, e) in self.files[..self.count].iter().enumerate() {
+            read += 1;
+            if id < e.id {
+                return LookedUp { file: None, read };
+            }
+            if id == e.id {
+                return LookedUp {
+                    file: Some(j),
+                    read,
+                };
+            }
+        }
+        LookedUp { file: None, read }
     }
 }

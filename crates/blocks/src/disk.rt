@@ -34,10 +34,12 @@ pub fn copy_run(disk: &mut [u8], from: u32, to: u32, n: u32) -> u32
     ensures all { result ≡ n }
 {
     // Block by block, since the two runs may have blocks in common.
-    for made in 0..n {
-        copy_block(disk, from + made, to + made);
+    let mut made = 0;
+    for i in 0..n {
+        copy_block(disk, from + i, to + i);
+        made += 1;
     }
-    n
+    made
 }
 
 // Makes the copies of a merge, the blocks of the lower section's buddy that lie between the free pieces to the upper

@@ -1,14 +1,13 @@
 -- Pages written in a run of blocks, and piece by piece: what is left to write at each step. Assumes nothing.
-use mathlib.Core.List.{List, [], ◌++◌, ◌∷◌, append_assoc}
+use mathlib.Core.List.{List, [], ◌++◌, ◌∷◌}
 use mathlib.Core.Path.{◌∙◌, ◌≡◌, ap, ap₂, refl, sym}
-use Prim.Native.Nat.{◌*◌, ◌+◌, ◌≤◌, suc, zero, ℕ}
+use Prim.Native.Nat.{◌*◌, ◌+◌, ◌-◌, ◌<◌, ◌≤◌, suc, zero, ℕ}
 use native.Mathlib.Omega.{arith}
-use lib.ListN.{drop, length, length-append, length-drop, length-take, take, take-append-drop}
-use lib.Seq.{drop_at, drop-drop, length-take-le, take-add, take_at}
+use lib.ListN.{drop, length, take}
+use lib.Seq.{drop-drop}
 use Rattle.blocks.proofs.DiskPieces.{length-block_run}
 use Rattle.layout.specs.Layout.{block_count, block_run, blocks_of}
-use Rattle.manager.proofs.Blocks.{store_length}
-use Rattle.manager.specs.Disk.{cut_pages, page_count, store_block, write_pages}
+use Rattle.manager.specs.Disk.{block, cut_pages, page_count, store_block, write_pages}
 use Rattle.section.specs.Limits.{block_size}
 use Rattle.section.specs.Sections.{length_of}
 use Rattle.section.specs.declared.Section.{Section}
@@ -17,55 +16,32 @@ use Rattle.section.specs.declared.Section.{Section}
 abbrev pub writing : ℕ → ℕ → ℕ → List ℕ → List ℕ → List ℕ
 writing a n p c d = write_pages d (block_run a n) (cut_pages n (drop (block_size * p) c))
 
--- the bytes past a block that is stored, and those up to its end
-module _ (d : List ℕ) (a : ℕ) (h : block_size * suc a ≤ length d) (p : List ℕ) (lp : length p ≡ block_size) where
-  abbrev head : List ℕ
-  head = take (block_size * a) d
+module _ (a n p : ℕ) (c d : List ℕ) where
+  pub writing_start : writing (a + 0) (n - 0) (p + 0) c d ≡ writing a n p c d
+  writing_start =
+      let x : a + 0 ≡ a = omega arith in
+      let y : n - 0 ≡ n = omega arith in
+      let z : p + 0 ≡ p = omega arith in
+      ap₂ (λ (u v : ℕ). writing u v (p + 0) c d) x y ∙ ap (λ (w : ℕ). writing a n w c d) z
 
-  abbrev rest : List ℕ
-  rest = drop (block_size * a + block_size) d
+  pub writing_more : (i : ℕ) → i < n
+      → writing (a + (i + 1)) (n - (i + 1)) (p + (i + 1)) c (store_block d (a + i) (block c (p + i)))
+      ≡ writing (a + i) (n - i) (p + i) c d
+  unfolding write_pages block_run cut_pages
+  writing_more i l =
+      let x : a + (i + 1) ≡ suc (a + i) = omega arith in
+      let y : n - i ≡ suc (n - (i + 1)) = omega arith in
+      let z : block_size * (p + (i + 1)) ≡ block_size * (p + i) + block_size = omega arith in
+      let e = ap (λ k. drop k c) z ∙ sym (drop-drop block_size (block_size * (p + i)) c) in
+      ap₂ (λ u v. write_pages (store_block d (a + i) (block c (p + i))) (block_run u (n - (i + 1)))
+      (cut_pages (n - (i + 1)) v)) x e
+      ∙ ap (λ k. writing (a + i) k (p + i) c d) (sym y)
 
-  head_length : length (head ++ p) ≡ block_size * suc a
-  head_length = length-append head p ∙ omega (arith, length-take (block_size * a) d)
-
-  stored_head : take (block_size * suc a) (store_block d a p) ≡ head ++ p
-  stored_head =
-      ap (take (block_size * suc a)) (sym (append_assoc head p rest))
-      ∙ take_at (head ++ p) rest (block_size * suc a) head_length
-
-  stored_rest : (n : ℕ) → drop (block_size * (suc a + n)) (store_block d a p) ≡ drop (block_size * (a + suc n)) d
-  stored_rest n =
-      let x : block_size * (suc a + n) ≡ block_size * suc a + block_size * n = omega arith in
-      let y : block_size * a + block_size + block_size * n ≡ block_size * (a + suc n) = omega arith in
-      ap (λ k. drop k (store_block d a p)) x
-      ∙ (sym (drop-drop (block_size * n) (block_size * suc a) (store_block d a p))
-      ∙ (ap (drop (block_size * n)) (ap (drop (block_size * suc a)) (sym (append_assoc head p rest))
-      ∙ drop_at (head ++ p) rest (block_size * suc a) head_length)
-      ∙ (drop-drop (block_size * n) (block_size * a + block_size) d ∙ ap (λ k. drop k d) y)))
-
--- the pages of a run are written together
-pub written-run : (n a : ℕ) (c d : List ℕ) → block_size * (a + n) ≤ length d → block_size * n ≤ length c
-    → write_pages d (block_run a n) (cut_pages n c)
-    ≡ take (block_size * a) d ++ (take (block_size * n) c ++ drop (block_size * (a + n)) d)
-unfolding write_pages block_run cut_pages
-written-run zero a c d h g =
-    let x : block_size * a ≡ block_size * (a + 0) = omega arith in
-    sym (take-append-drop (block_size * a) d) ∙ ap (λ k. take (block_size * a) d ++ drop k d) x
-written-run (suc n) a c d h g =
-    let p = take block_size c in
-    let lp : length p ≡ block_size = length-take-le block_size c (omega arith) in
-    let d' = store_block d a p in
-    let c' = drop block_size c in
-    let a' : block_size * suc a ≤ length d = omega arith in
-    let long : length d' ≡ length d = store_length d a (omega arith) p lp in
-    let k : block_size + block_size * n ≡ block_size * suc n = omega arith in
-    written-run n (suc a) c' d' (omega (arith, long)) (omega (arith, length-drop block_size c))
-    ∙ (ap₂ (λ x y. x ++ (take (block_size * n) c' ++ y)) (stored_head d a a' p lp) (stored_rest d a a' p lp n)
-    ∙ (append_assoc (head d a a' p lp) p (take (block_size * n) c' ++ drop (block_size * (a + suc n)) d)
-    ∙ ap (λ z. take (block_size * a) d ++ z)
-    (sym (append_assoc p (take (block_size * n) c') (drop (block_size * (a + suc n)) d))
-    ∙ ap (λ z. z ++ drop (block_size * (a + suc n)) d)
-    (sym (take-add block_size (block_size * n) c) ∙ ap (λ m. take m c) k))))
+  pub writing-end : (i : ℕ) → n ≤ i → d ≡ writing (a + i) (n - i) (p + i) c d
+  unfolding write_pages block_run cut_pages
+  writing-end i l =
+      let y : n - i ≡ 0 = omega arith in
+      ap (λ k. writing (a + i) k (p + i) c d) (sym y)
 
 -- pages written to blocks one after another
 write_append : (a b : List ℕ) (n k : ℕ) (d c : List ℕ) → length a ≡ n

@@ -1,4 +1,5 @@
 -- The laws of blocks and pages, by subject.
+pub mod DiskStoring
 pub mod DiskCopies
 pub mod DiskPieces
 pub mod DiskWriting

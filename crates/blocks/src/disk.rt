@@ -1,6 +1,7 @@
 // Blocks and pages: copies within the disk, and pages written to the blocks of pieces.
 //
-// Every function works on the caller's bytes in place. A block, and the pages of a run, are moved as a whole.
+// Every function works on the caller's bytes in place. Blocks and pages are moved byte by byte, in a loop over a fixed
+// number of bytes.
 ghost use Rattle.std.specs.Prelude.{◌≡◌, ◌*◌, ◌≤◌, length, drop};
 ghost use Rattle.section.specs.Limits.{block_size, greatest_disk};
 ghost use Rattle.layout.specs.Layout.{block_run, blocks_of};
@@ -22,7 +23,9 @@ pub fn copy_block(disk: &mut [u8], from: u32, to: u32)
 {
     let source = Section::BLOCK_SIZE * (from as usize);
     let target = Section::BLOCK_SIZE * (to as usize);
-    disk.copy_within(source..source + Section::BLOCK_SIZE, target);
+    for i in 0..Section::BLOCK_SIZE {
+        disk[target + i] = disk[source + i];
+    }
 }
 
 // Copies the `n` blocks from `from` on to the places from `to` on, in order, and answers how many copies it made.
@@ -76,8 +79,9 @@ pub fn store_block(target: &mut [u8], to: usize, source: &[u8], from: usize)
 {
     let first = Section::BLOCK_SIZE * from;
     let place = Section::BLOCK_SIZE * to;
-    let bytes = &source[first..first + Section::BLOCK_SIZE];
-    target[place..place + Section::BLOCK_SIZE].copy_from_slice(bytes);
+    for i in 0..Section::BLOCK_SIZE {
+        target[place + i] = source[first + i];
+    }
 }
 
 // Writes the `n` pages of the content from `page` on to the blocks from `to` on.
@@ -87,10 +91,9 @@ fn write_run(disk: &mut [u8], to: usize, content: &[u8], page: usize, n: usize)
     ensures { disk.new
         ≡ write_pages disk.old (block_run to n) (cut_pages n (drop (block_size * page) content.now)) }
 {
-    let first = Section::BLOCK_SIZE * page;
-    let place = Section::BLOCK_SIZE * to;
-    let size = Section::BLOCK_SIZE * n;
-    disk[place..place + size].copy_from_slice(&content[first..first + size]);
+    for k in 0..n {
+        store_block(disk, to + k, content, page + k);
+    }
 }
 
 // Writes the pages of the content to the blocks of a file's pieces.

@@ -1,22 +1,33 @@
--- `store_block` puts the bytes of the one block in the place of those of the other. Assumes nothing.
-use mathlib.Core.Path.{◌∙◌, ◌≡◌, ap, sym}
-use Prim.Native.Nat.{◌*◌, ◌+◌, ◌-◌}
+-- `store_block` stores a block of the one list in a block of the other. Each turn stores one byte more. Assumes
+-- nothing.
+use mathlib.Core.Path.{◌∙◌, ◌≡◌, ap}
 use native.Mathlib.Omega.{arith}
-use lib.ListN.{drop, take}
-use Rattle.std.proofs.lemmas.List.Edits.{paste_all}
-use Rattle.std.proofs.lemmas.Slice.{put_mid-paste}
+use Rattle.blocks.proofs.DiskStoring.{get_d_block, storing, storing-all, storing_more, storing-none}
 use Rattle.manager.proofs.Blocks.{block-length}
 use Rattle.manager.specs.Disk.{block}
 use Rattle.section.specs.Limits.{block_size}
 use Rattle.blocks.proofs.disk.store_block.Goals as goal
 
+pub loop-i-init : goal.loop-i-init
+loop-i-init c =
+    let s = c.args.source.now in
+    storing-none c.args.target.now (block s c.args.from) c.args.to c.requires.has_block
+    (block-length s c.args.from c.requires.has_block_2)
+
+pub loop-i-preserved : goal.loop-i-preserved
+loop-i-preserved c =
+    let s = c.args.source.now in
+    let i = c.loop-i.i in
+    let t = c.loop-i-test.true in
+    storing_more c.args.target.now (block s c.args.from) c.args.to c.requires.has_block
+    (block-length s c.args.from c.requires.has_block_2) c.loop-i.target i _ t c.loop-i.invariant
+    (get_d_block s c.args.from i t)
+
 pub returns : goal.returns
 returns c =
-    let s = c.args.source.now in
-    let from = block_size * c.args.from in
-    let p = block s c.args.from in
-    let n : from + block_size - from ≡ block_size = omega arith in
-    let whole = sym (block-length s c.args.from c.requires.has_block_2) in
-    let copied = c.copy_from_slice.ensures.after ∙ ap (λ k. take k (drop from s)) n in
-    put_mid-paste _ _ _ _ p block_size copied (omega arith) whole
-    ∙ paste_all c.args.target.now (block_size * c.args.to) p block_size whole
+    let d = c.args.target.now in
+    let p = block c.args.source.now c.args.from in
+    let e : c.loop-i.i ≡ block_size = omega arith in
+    c.loop-i.invariant
+    ∙ (ap (storing d c.args.to p) e
+    ∙ storing-all d p c.args.to c.requires.has_block (block-length c.args.source.now c.args.from c.requires.has_block_2))

@@ -1,28 +1,23 @@
--- `write_run` puts the bytes of the pages in the place of those of the blocks. Assumes nothing.
-use mathlib.Core.List.{◌++◌}
-use mathlib.Core.Path.{◌∙◌, ◌≡◌, ap, sym}
-use Prim.Native.Nat.{◌*◌, ◌+◌, ◌-◌}
+-- `write_run` writes pages one after another to a run of blocks: what is left to write gives the disk that all of
+-- it gives. Assumes nothing.
+use mathlib.Core.Path.{◌∙◌, ap}
+use Prim.Native.Nat.{◌+◌, ◌-◌}
 use native.Mathlib.Omega.{arith}
-use lib.ListN.{drop, length, length-drop, length-take, take}
-use Rattle.std.proofs.lemmas.List.Edits.{paste_all}
-use Rattle.std.proofs.lemmas.Slice.{put_mid-paste}
-use Rattle.blocks.proofs.DiskWriting.{written-run}
-use Rattle.section.specs.Limits.{block_size}
+use Rattle.blocks.proofs.DiskWriting.{writing, writing-end, writing_more, writing_start}
 use Rattle.blocks.proofs.disk.write_run.Goals as goal
+
+pub loop-k-init : goal.loop-k-init
+loop-k-init c = writing_start c.args.to c.args.n c.args.page c.args.content.now c.args.disk.now
+
+pub loop-k-preserved : goal.loop-k-preserved
+loop-k-preserved c =
+    let k = c.loop-k.k in
+    ap (writing (c.args.to + (k + 1)) (c.args.n - (k + 1)) (c.args.page + (k + 1)) c.args.content.now)
+    c.store_block.ensures
+    ∙ (writing_more c.args.to c.args.n c.args.page c.args.content.now c.loop-k.disk k (omega arith)
+    ∙ c.loop-k.invariant)
 
 pub returns : goal.returns
 returns c =
-    let d = c.args.disk.now in
-    let from = block_size * c.args.page in
-    let to = block_size * c.args.to in
-    let size = block_size * c.args.n in
-    let pages = drop from c.args.content.now in
-    let bytes = take size pages in
-    let long = length-drop from c.args.content.now in
-    let whole : size ≡ length bytes = omega (arith, length-take size pages, long, c.requires.has_run_2) in
-    let n : from + size - from ≡ size = omega arith in
-    let end : to + size ≡ block_size * (c.args.to + c.args.n) = omega arith in
-    put_mid-paste _ _ _ _ bytes size (c.copy_from_slice.ensures.after ∙ ap (λ k. take k pages) n) (omega arith) whole
-    ∙ (paste_all d to bytes size whole
-    ∙ (ap (λ k. take to d ++ (bytes ++ drop k d)) end
-    ∙ sym (written-run c.args.n c.args.to pages d c.requires.has_run (omega (arith, long, c.requires.has_run_2)))))
+    writing-end c.args.to c.args.n c.args.page c.args.content.now c.loop-k.disk c.loop-k.k c.loop-k-test.false
+    ∙ c.loop-k.invariant

@@ -1,11 +1,12 @@
 -- The pieces of a file one after another: the one at hand, those left, and the blocks of both. Assumes nothing.
-use mathlib.Core.List.{List, [], ◌∷◌}
+use mathlib.Core.List.{List, [], ◌++◌, ◌∷◌}
 use mathlib.Core.Path.{◌∙◌, ◌≡◌, ap, ap₂, refl, subst, sym}
 use Prim.Native.Nat.{◌*◌, ◌+◌, ◌-◌, ◌<◌, ◌^◌, ◌≤◌, suc, zero, ℕ}
 use native.Mathlib.Numerals.{add-one}
 use native.Mathlib.Omega.{arith}
-use lib.ListN.{get_or-append, drop, drop_of_length-le, get_or, length, length-drop, length-take}
-use lib.Seq.{drop_at, drop-cons, drop-drop, get_or-drop}
+use lib.ListN.{get_or-append, drop, drop_of_length-le, get_or, length, length-take, take}
+use lib.Seq.{drop-cons}
+use Rattle.blocks.proofs.DiskStoring.{get_d_append_past}
 use Rattle.blocks.specs.DiskCode.{EntryFits, HasBlock, HasRun, PieceFits}
 use Rattle.layout.proofs.Lists.{each_append, each_imp}
 use Rattle.layout.proofs.Occurs.{length-blocks}
@@ -14,6 +15,7 @@ use Rattle.layout.specs.Lists.{Each, done, more}
 use Rattle.piece.proofs.Seen.{seen_get, seen-length}
 use Rattle.piece.specs.Packed.{no_piece, section_in, seen}
 use Rattle.piece.specs.declared.Piece.{Piece}
+use Rattle.piece_lists.proofs.Arrays.{ahead, behind}
 use Rattle.piece_lists.proofs.EachItem.{each_get}
 use Rattle.piece_lists.specs.Few.{list_of, piece_places}
 use Rattle.section.specs.Limits.{block_size, greatest_disk}
@@ -22,17 +24,21 @@ use Rattle.section.specs.declared.Section.{Section}
 use Rattle.table.specs.Tables.{pieces_in}
 use Rattle.table.specs.declared.Entry.{Entry}
 
+-- a section with nothing in it, where a list has to have one
+abbrev pub no_section : Section
+no_section = section 0 0
+
 -- the pieces in words, with the section s in the word at place j
 module _ (l : List Piece) (j : ℕ) (here : j < length l) (s : Section) (is : s ≡ section_in (get_or l j no_piece)) where
   pub piece_next : drop j (seen l) ≡ s ∷ drop (j + 1) (seen l)
   piece_next =
-      drop-cons (seen l) j (section 0 0) (omega (arith, seen-length l))
+      drop-cons (seen l) j no_section (omega (arith, seen-length l))
       ∙ ap₂ (λ x k. x ∷ drop k (seen l)) (seen_get l j ∙ sym is) (sym (add-one j))
 
   pub piece_fits : (d : ℕ) (e : Entry) → seen l ≡ pieces_in e → EntryFits d e → PieceFits d s
   piece_fits d e listed fits =
       subst (PieceFits d) (seen_get l j ∙ sym is)
-      (each_get {P = PieceFits d} j (section 0 0) (subst (Each (PieceFits d)) (sym listed) fits.pieces)
+      (each_get {P = PieceFits d} j no_section (subst (Each (PieceFits d)) (sym listed) fits.pieces)
       (omega (arith, seen-length l)))
 
 pub piece_past : (l : List Piece) (j : ℕ) → length l ≤ j → drop j (seen l) ≡ []
@@ -77,47 +83,70 @@ unfolding block_run
 length-block_run zero a = refl
 length-block_run (suc n) a = ap suc (length-block_run n (suc a))
 
-get_d_run : (n a k : ℕ) → k < n → get_or (block_run a n) k 0 ≡ a + k
+pub get_d_run : (n a k : ℕ) → k < n → get_or (block_run a n) k 0 ≡ a + k
 unfolding block_run
 get_d_run zero a k l = absurd (omega arith)
 get_d_run (suc n) a zero l = omega arith
 get_d_run (suc n) a (suc k) l = get_d_run n (suc a) k (omega arith) ∙ omega arith
 
--- no page is left behind the last piece
-pub run_past : (l m : List Section) (k r : ℕ) → m ≡ [] → drop r (blocks_of m) ≡ drop k (blocks_of l)
-    → length (blocks_of l) ≤ k
-unfolding blocks_of
-run_past l m k r e v = omega (
-  arith,
-  length-drop k (blocks_of l),
-  ap length v,
-  ap (λ z. length (drop r (blocks_of z))) e,
-  length-drop r (blocks_of []),
-)
-
--- the blocks of the pieces l from page k on are those of the piece s and of the pieces m behind it from page r on
-module _ (s : Section) (l m : List Section) (k r : ℕ) (v : drop r (blocks_of (s ∷ m)) ≡ drop k (blocks_of l)) where
-  -- the page is in s: its blocks from there on hold the pages from k on
-  pub run_here : (i : ℕ) → r + i < length_of s → s.first + r + i ≡ get_or (blocks_of l) (k + i) 0
+module _ (items : List Section) (m j : ℕ) (hm : m ≤ length items) where
+  blocks_here : j < m → blocks_of (drop j (take m items))
+      ≡ block_run (get_or items j no_section).first (length_of (get_or items j no_section))
+      ++ blocks_of (drop (j + 1) (take m items))
   unfolding blocks_of
-  run_here i h =
-      let x : s.first + r + i ≡ s.first + (r + i) = omega arith in
-      x ∙ (sym (get_d_run (length_of s) s.first (r + i) h)
-      ∙ (sym (get_or-append (block_run s.first (length_of s)) (blocks_of m) 0 (r + i)
-      (omega (arith, length-block_run (length_of s) s.first)))
-      ∙ (sym (get_or-drop r (blocks_of (s ∷ m)) i 0)
-      ∙ (ap (λ z. get_or z i 0) v ∙ get_or-drop k (blocks_of l) i 0))))
+  blocks_here l = ap blocks_of (ahead items m j hm no_section l)
+
+  -- the page is in the piece at hand
+  page_here : (k n : ℕ) → j < m → n ≡ length_of (get_or items j no_section) → k < n
+      → (get_or items j no_section).first + k ≡ get_or (blocks_of (drop j (take m items))) k 0
+  page_here k n l e h =
+      let s = get_or items j no_section in
+      let h' : k < length_of s = omega arith in
+      sym (ap (λ z. get_or z k 0) (blocks_here l)
+      ∙ (get_or-append (block_run s.first (length_of s)) (blocks_of (drop (j + 1) (take m items))) 0 k
+      (omega (arith, length-block_run (length_of s) s.first))
+      ∙ get_d_run (length_of s) s.first k h'))
 
   -- it is in a later one
-  pub run_later : length_of s ≤ r → drop (r - length_of s) (blocks_of m) ≡ drop k (blocks_of l)
+  page-later : (k n : ℕ) → j < m → n ≡ length_of (get_or items j no_section) → n ≤ k
+      → get_or (blocks_of (drop (j + 1) (take m items))) (k - n) 0 ≡ get_or (blocks_of (drop j (take m items))) k 0
+  page-later k n l e h =
+      let s = get_or items j no_section in
+      sym (ap (λ z. get_or z k 0) (blocks_here l)
+      ∙ get_d_append_past (block_run s.first (length_of s)) (blocks_of (drop (j + 1) (take m items))) n k
+      (length-block_run (length_of s) s.first ∙ sym e) h)
+
+  -- it is in none
+  page-none : (k : ℕ) → m ≤ j → 0 ≡ get_or (blocks_of (drop j (take m items))) k 0
   unfolding blocks_of
-  run_later h =
-      let x : length_of s + (r - length_of s) ≡ r = omega arith in
-      ap (drop (r - length_of s))
-      (sym (drop_at (block_run s.first (length_of s)) (blocks_of m) (length_of s)
-      (length-block_run (length_of s) s.first)))
-      ∙ (drop-drop (r - length_of s) (length_of s) (blocks_of (s ∷ m))
-      ∙ (ap (λ z. drop z (blocks_of (s ∷ m))) x ∙ v))
+  page-none k l = sym (ap (λ z. get_or (blocks_of z) k 0) (behind items m j hm l))
+
+-- past the first j pieces `rest` pages are left before page `page`
+module _ (items : List Section) (m j rest page : ℕ) (hm : m ≤ length items)
+    (v : (k : ℕ) → get_or (blocks_of (drop j (take m items))) (rest + k) 0
+    ≡ get_or (blocks_of (take m items)) (page + k) 0)
+  where
+    module _ (lt : j < m) (n : ℕ) (e : n ≡ length_of (get_or items j no_section)) where
+      -- the blocks of the piece at hand from that page on hold the pages from it on
+      pub run_here : rest < n → (i : ℕ) → i < n - rest
+          → (get_or items j no_section).first + rest + i ≡ get_or (blocks_of (take m items)) (page + i) 0
+      run_here h i q =
+          let s = get_or items j no_section in
+          let x : s.first + rest + i ≡ s.first + (rest + i) = omega arith in
+          x ∙ (page_here items m j hm (rest + i) n lt e (omega arith) ∙ v i)
+
+      pub run_later : n ≤ rest → (k : ℕ)
+          → get_or (blocks_of (drop (j + 1) (take m items))) (rest - n + k) 0
+          ≡ get_or (blocks_of (take m items)) (page + k) 0
+      run_later h k =
+          let x : rest - n + k ≡ rest + k - n = omega arith in
+          ap (λ z. get_or (blocks_of (drop (j + 1) (take m items))) z 0) x
+          ∙ (page-later items m j hm (rest + k) n lt e (omega arith) ∙ v k)
+
+    pub run_none : m ≤ j → 0 ≡ get_or (blocks_of (take m items)) page 0
+    run_none l =
+        let y : page + 0 ≡ page = omega arith in
+        page-none items m j hm (rest + 0) l ∙ (v 0 ∙ ap (λ z. get_or (blocks_of (take m items)) z 0) y)
 
 run_on_disk : (d n a : ℕ) → HasRun d a n → Each (HasBlock d) (block_run a n)
 unfolding block_run

@@ -2,6 +2,7 @@
 pub mod DiskStoring
 pub mod DiskCopies
 pub mod DiskPieces
+pub mod PiecesLeft
 pub mod DiskWriting
 pub mod DiskReading
 pub mod RunSteps

@@ -4,7 +4,8 @@ use mathlib.Core.Path.{◌∙◌, ap, refl, sym}
 use Prim.Native.Nat.{◌+◌, ◌-◌}
 use native.Mathlib.Omega.{arith}
 use lib.ListN.{drop, length}
-use Rattle.blocks.proofs.DiskPieces.{piece_fits, piece_next, piece_past, run_here, run_later, run_past}
+use Rattle.blocks.proofs.DiskPieces.{piece_fits, piece_next, piece_past}
+use Rattle.blocks.proofs.PiecesLeft.{rest_here, rest_later, run_past}
 use Rattle.blocks.proofs.RunSteps.{run_is}
 use Rattle.layout.specs.Layout.{blocks_of}
 use Rattle.piece.specs.Packed.{seen}
@@ -36,7 +37,7 @@ returns-then-rest-n c =
     let rest = c.loop-piece.rest in
     let next = piece_next _ _ t _ c.section-s.ensures in
     let p = piece_fits _ _ t _ c.section-s.ensures _ _ listed c.requires in
-    let on = run_here c.section-s.result l m page rest (ap (λ z. drop rest (blocks_of z)) (sym next)
+    let on = rest_here c.section-s.result l m page rest (ap (λ z. drop rest (blocks_of z)) (sym next)
     ∙ (c.loop-piece.invariant ∙ ap (λ z. drop page (blocks_of z)) listed)) in
     run_is (blocks_of l) page (c.section-s.result.first + rest) (c.length-n.result - rest)
     (λ i q. on i (omega (arith, n))) (omega arith) (omega (arith, p.within, n))
@@ -49,7 +50,7 @@ loop-piece-preserved c =
     let rest = c.loop-piece.rest in
     let next = piece_next _ _ c.loop-piece-test.true _ c.section-s.ensures in
     ap (λ z. drop (rest - z) (blocks_of m)) n
-    ∙ run_later c.section-s.result l m c.args.page rest
+    ∙ rest_later c.section-s.result l m c.args.page rest
     (ap (λ z. drop rest (blocks_of z)) (sym next) ∙ c.loop-piece.invariant) (omega (arith, n))
 
 pub returns : goal.returns

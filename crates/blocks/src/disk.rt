@@ -23,6 +23,7 @@ pub fn copy_block(disk: &mut [u8], from: u32, to: u32)
 {
     let source = Section::BLOCK_SIZE * (from as usize);
     let target = Section::BLOCK_SIZE * (to as usize);
+    // By bytes, since the library's copy within a buffer asks at each block which way to go.
     for i in 0..Section::BLOCK_SIZE {
         disk[target + i] = disk[source + i];
     }
@@ -79,6 +80,7 @@ pub fn store_block(target: &mut [u8], to: usize, source: &[u8], from: usize)
 {
     let first = Section::BLOCK_SIZE * from;
     let place = Section::BLOCK_SIZE * to;
+    // By bytes, since the library's copy between buffers is a call of `memmove`, which the archive for C does without.
     for i in 0..Section::BLOCK_SIZE {
         target[place + i] = source[first + i];
     }

@@ -23,11 +23,14 @@ fn are_buddies(h: u32, l: Section, u: Section) -> bool
     l.height.value == h && u == l.buddy() && l.first < u.first
 }
 
-// How many pieces have height `h`.
+// How many pieces have height `h`: a sum of ones, so that no piece needs a branch.
 fn count_of_height(pieces: &[Piece], h: u32) -> usize
     ensures { result ≡ count_by (λ x. has_height h (section_in x)) pieces.now }
 {
-    pieces.iter().filter(|piece| piece.height() == h).count()
+    pieces
+        .iter()
+        .map(|piece| (piece.height() == h) as usize)
+        .sum()
 }
 
 // The lowest height that has two pieces, if one has.

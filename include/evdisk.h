@@ -19,7 +19,7 @@
  *      256 KiB. That is measured, not proved.
  *    - The caller is x86-64 code that keeps to the System V calling convention, as C compilers for Linux do: a buffer
  *      is two arguments, its pointer and its length of 8 bytes, and the result is of 8 bytes with a sign.
- *    - memcpy, memmove and memset, which the archive takes from the C library, do as the C standard says.
+ *    - memcpy and memset, which the archive takes from the C library, do as the C standard says.
  */
 #ifndef EVDISK_H
 #define EVDISK_H

@@ -1,7 +1,6 @@
 // Blocks and pages: copies within the disk, and pages written to the blocks of pieces.
 //
-// Every function works on the caller's bytes in place. Blocks and pages are moved byte by byte, in a loop over a fixed
-// number of bytes.
+// Every function works on the caller's bytes in place, block by block.
 ghost use Rattle.std.specs.Prelude.{◌≡◌, ◌*◌, ◌≤◌, length, drop};
 ghost use Rattle.section.specs.Limits.{block_size, greatest_disk};
 ghost use Rattle.layout.specs.Layout.{block_run, blocks_of};
@@ -23,10 +22,7 @@ pub fn copy_block(disk: &mut [u8], from: u32, to: u32)
 {
     let source = Section::BLOCK_SIZE * (from as usize);
     let target = Section::BLOCK_SIZE * (to as usize);
-    // By bytes, since the library's copy within a buffer asks at each block which way to go.
-    for i in 0..Section::BLOCK_SIZE {
-        disk[target + i] = disk[source + i];
-    }
+    disk.copy_within(source..source + Section::BLOCK_SIZE, target);
 }
 
 // Copies the `n` blocks from `from` on to the places from `to` on, in order, and answers how many copies it made.

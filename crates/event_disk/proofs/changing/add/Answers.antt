@@ -36,10 +36,6 @@ pub add_in-requires : goal.add_in-requires
 add_in-requires c =
     c.in_ok-opened.ensures.entered.opened
 
-pub store_changed-requires : goal.store_changed-requires
-store_changed-requires c =
-    storable _ c.in_ok-opened.opened c.in_ok-opened.ensures c.in_ok-changed.changed c.in_ok-changed.ensures
-
 pub returns-in_err-changed : goal.returns-in_err-changed
 returns-in_err-changed c =
     let cat = c.args.cat.now in
@@ -59,6 +55,10 @@ returns-in_err-changed c =
       disk = x.2;
       content = refl;
     }
+
+pub store_changed-requires : goal.store_changed-requires
+store_changed-requires c =
+    storable _ c.in_ok-opened.opened c.in_ok-opened.ensures c.in_ok-changed.changed c.in_ok-changed.ensures
 
 pub returns : goal.returns
 returns c =

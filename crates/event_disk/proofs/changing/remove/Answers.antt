@@ -38,10 +38,6 @@ pub remove_in-requires : goal.remove_in-requires
 remove_in-requires c =
     c.in_ok-opened.ensures.entered.opened
 
-pub store_changed-requires : goal.store_changed-requires
-store_changed-requires c =
-    storable _ c.in_ok-opened.opened c.in_ok-opened.ensures c.in_ok-changed.changed c.in_ok-changed.ensures
-
 pub returns-in_err-changed : goal.returns-in_err-changed
 returns-in_err-changed c =
     let cat = c.args.cat.now in
@@ -61,6 +57,10 @@ returns-in_err-changed c =
       disk = x.2;
       limit = within_carries (remove c.args.id) cat c.args.id disk _ refl x.0;
     }
+
+pub store_changed-requires : goal.store_changed-requires
+store_changed-requires c =
+    storable _ c.in_ok-opened.opened c.in_ok-opened.ensures c.in_ok-changed.changed c.in_ok-changed.ensures
 
 pub returns : goal.returns
 returns c =

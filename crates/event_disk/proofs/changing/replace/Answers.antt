@@ -40,10 +40,6 @@ pub replace_in-requires : goal.replace_in-requires
 replace_in-requires c =
     c.in_ok-opened.ensures.entered.opened
 
-pub store_changed-requires : goal.store_changed-requires
-store_changed-requires c =
-    storable _ c.in_ok-opened.opened c.in_ok-opened.ensures c.in_ok-changed.changed c.in_ok-changed.ensures
-
 pub returns-in_err-changed : goal.returns-in_err-changed
 returns-in_err-changed c =
     let cat = c.args.cat.now in
@@ -64,6 +60,10 @@ returns-in_err-changed c =
       content = refl;
       limit = within_carries (replace c.args.id c.args.content.now) cat c.args.id disk _ refl x.0;
     }
+
+pub store_changed-requires : goal.store_changed-requires
+store_changed-requires c =
+    storable _ c.in_ok-opened.opened c.in_ok-opened.ensures c.in_ok-changed.changed c.in_ok-changed.ensures
 
 pub returns : goal.returns
 returns c =

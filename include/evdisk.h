@@ -15,7 +15,7 @@
  *      uint16_t. With a length of 0 it is not used. Bytes need no alignment; numbers are aligned as uint16_t is.
  *    - The buffers of one call do not overlap, and nobody else changes them, or reads one that is not const, while the
  *      call lasts. Calls on other buffers may run at the same time.
- *    - There is stack enough: no call was measured to need more than 75,072 bytes, and `./test` fails if one needs
+ *    - There is stack enough: no call was measured to need more than 77,568 bytes, and `./test` fails if one needs
  *      256 KiB. That is measured, not proved.
  *    - The caller is x86-64 code that keeps to the System V calling convention, as C compilers for Linux do: a buffer
  *      is two arguments, its pointer and its length of 8 bytes, and the result is of 8 bytes with a sign.
